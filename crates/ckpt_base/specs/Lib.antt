@@ -1,0 +1,2 @@
+-- a list of bytes with spare room
+pub mod Buffer
