@@ -3,7 +3,7 @@ use Rattle.std.proofs.Common.{ℕ, ◌+◌, ◌-◌, ◌*◌, ◌/◌, ◌%◌, 
 use Rattle.std.specs.Int.{bit_at, bit_not}
 use Rattle.std.proofs.lemmas.Bool.{eq-eqb, eqb-true, eqb-false, not-true, not-false, or_cases, or_parts, cases_eq, cases_lt}
 use Rattle.std.proofs.lemmas.Bool.Decides.{nat_tests}
-use Rattle.std.proofs.lemmas.Nat.Bits.{bit_at_set_same, bit_at_set_other, bit_at_or, bit_at_and, bit_at_not, bit_at-lt, bit_at_above, same_from_bits, bit_at-zero}
+use Rattle.std.proofs.lemmas.Nat.Bits.{bit_at_set_same, bit_at_set_other, bit_at_or, bit_at_and, bit_at_not, bit_at-lt, bit_at_above, same_from_bits, same_from_bits_below, bit_at-zero}
 use Rattle.std.proofs.lemmas.List.{get_or_past}
 use Rattle.cell_sets.specs.Bits.{bit_of}
 
@@ -112,3 +112,21 @@ flag_none added o w h = let p = or_parts added (not (eqb (bit_or w o) w)) h in (
 -- where no word has changed, no bit is new
 pub no_new : (ws os : List ℕ) → ((q : ℕ) → bit_of ws q ≡ (bit_of ws q || bit_of os q)) → (q : ℕ) → bit_of os q ≡ true → bit_of ws q ≡ false → ⊥
 no_new ws os same q a b = grind (arith, same q)
+
+same_bit : (x y : ℕ) → x < 2 → y < 2 → eqb x 1 ≡ eqb y 1 → x ≡ y
+same_bit x y l m e = grind (arith, nat_tests)
+
+-- a word is its bits
+pub word_from_bits : (ws os : List ℕ) (k : ℕ) → get_or ws k 0 < 2 ^ 64 → get_or os k 0 < 2 ^ 64 → ((q : ℕ) → bit_of ws q ≡ bit_of os q) → get_or ws k 0 ≡ get_or os k 0
+word_from_bits ws os k lw lo h =
+    same_from_bits_below 64 (get_or ws k 0) (get_or os k 0) lw lo (λ i below.
+    same_bit (bit_at (get_or ws k 0) i) (bit_at (get_or os k 0) i) (bit_at-lt (get_or ws k 0) i) (bit_at-lt (get_or os k 0) i)
+    (sym (at_word ws k i below) ∙ h (64 * k + i) ∙ at_word os k i below))
+
+-- where all words are the same, so are the bits
+pub bits_from_words : (ws os : List ℕ) → length ws ≡ length os → ((k : ℕ) → k < length ws → get_or ws k 0 ≡ get_or os k 0) → (q : ℕ) → bit_of ws q ≡ bit_of os q
+bits_from_words ws os e h q =
+    elim (cases_lt (q / 64) (length ws)) [
+      | inl in' ↦ ap (λ w. eqb (bit_at w (q % 64)) 1) (h (q / 64) in')
+      | inr out ↦ past ws q out ∙ sym (past os q (omega arith))
+    ]

@@ -4,7 +4,7 @@ ghost use Rattle.cell_sets.specs.Runs.{in_runs, IsRising};
 
 use crate::cell_set::CellSet;
 use crate::runs::Run;
-use crate::words::{bit, minus_words, or_words, set_bit};
+use crate::words::{bit, minus_words, or_words, same_words, set_bit};
 use ckpt_base::NoMemory;
 use std::alloc::Global;
 use std::marker::Model;
@@ -124,5 +124,13 @@ impl BitRow {
         ensures answer { (q : ℕ) → has self.new q ≡ (has self.old q && not (has other.now q)) }
     {
         minus_words(&mut self.words, &other.words);
+    }
+
+    /// Whether the other row has the same numbers.
+    pub fn is_same(&self, other: &BitRow) -> bool
+        requires equal { universe_of self.now ≡ universe_of other.now }
+        ensures answer { IsTrue result ↔ ((q : ℕ) → has self.now q ≡ has other.now q) }
+    {
+        same_words(&self.words, &other.words)
     }
 }

@@ -40,3 +40,15 @@ pub(crate) fn minus_words(words: &mut [u64], other: &[u64])
         words[i] &= !other[i];
     }
 }
+
+pub(crate) fn same_words(words: &[u64], other: &[u64]) -> bool
+    requires { length words.now ≡ length other.now }
+    ensures { IsTrue result ↔ ((q : ℕ) → bit_of words.now q ≡ bit_of other.now q) }
+{
+    'words: for i in 0..words.len() {
+        if words[i] != other[i] {
+            return false;
+        }
+    }
+    true
+}
