@@ -18,6 +18,24 @@ pub enum Mark {
     Exclude(u16),
 }
 
+impl Mark {
+    ghost use Rattle.path_laws.specs.Graph.{mark_is_checkpoint, mark_is_exclude};
+
+    /// Whether it is a CHECKPOINT_HERE.
+    pub fn is_checkpoint(self) -> bool
+        ensures answer { result ≡ mark_is_checkpoint self }
+    {
+        matches!(self, Mark::Checkpoint)
+    }
+
+    /// Whether it is an EXCLUDE_HERE.
+    pub fn is_exclude(self) -> bool
+        ensures answer { result ≡ mark_is_exclude self }
+    {
+        matches!(self, Mark::Exclude(_))
+    }
+}
+
 #[derive(Drop)]
 struct Node {
     next: (Option<u32>, Option<u32>),
@@ -47,7 +65,7 @@ impl Model for EffectGraph {
 }
 
 impl EffectGraph {
-    ghost use Rattle.path_laws.specs.Graph.{next_of, mark_of, reads_of, writes_of, kills_of, has_edge};
+    ghost use Rattle.path_laws.specs.Graph.{next_of, mark_of, reads_of, writes_of, kills_of, has_edge, exclude_count};
     ghost use Rattle.path_laws.specs.Walks.{IsWalk, IsWalkFrom};
 
     /// A graph with no node, over cells below `cells`.
@@ -111,6 +129,16 @@ impl EffectGraph {
         ensures answer { result ≡ self.now.cells }
     {
         self.cells
+    }
+
+    /// The number of EXCLUDE_HERE.
+    pub fn excludes(&self) -> u32
+        ensures answer { result ≡ exclude_count self.now }
+    {
+        self.list
+            .iter()
+            .filter(|node| node.mark.is_exclude())
+            .count() as u32
     }
 
     /// The nodes that node `n` has edges to.
