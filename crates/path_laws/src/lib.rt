@@ -12,6 +12,7 @@
 mod graph;
 mod predecessors;
 mod solver;
+mod whole;
 
 pub use graph::{EffectGraph, Mark};
 pub use solver::reaching;

@@ -19,6 +19,7 @@ fn graphs(rt: HostRuntime) -> Result<(), Fail> {
     assert!(rt; graph.reads(0).holds(2));
     assert!(rt; graph.is_walk(&[0, 0]));
     assert!(rt; !graph.is_walk(&[0, 1]));
+    assert!(rt; !graph.is_whole());
     assert_eq!(rt; graph.edges()?.as_slice(), [(0, 0), (0, 2)].as_slice());
     Ok(())
 }
