@@ -14,3 +14,6 @@ mod signature;
 
 pub use classes::Classes;
 pub use exclusions::{Exclusions, find_exclusions};
+
+#[cfg(test)]
+mod tests;
