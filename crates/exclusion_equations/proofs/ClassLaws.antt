@@ -1,6 +1,6 @@
 -- Classes that were found so far.
-use Rattle.std.proofs.Common.{ℕ, ◌+◌, ◌-◌, ◌<◌, ◌≤◌, ◌≡◌, Bool, true, false, ◌&&◌, ◌||◌, List, [], ◌∷◌, ◌++◌, length, length-append, get_or, take, arith, subst, sym, ap, ◌∙◌, refl, eqb, leb, ltb, inl, inr, ◌⊎◌, zero, suc, Option, Some, None}
-use Rattle.std.proofs.lemmas.Bool.{false≢true, cases_lt, cases_eq, or_parts, eqb-false}
+use Rattle.std.proofs.Common.{ℕ, ◌+◌, ◌<◌, ◌≤◌, ◌≡◌, true, false, ◌||◌, List, [], ◌∷◌, ◌++◌, length, length-append, get_or, take, arith, subst, sym, ap, ◌∙◌, refl, eqb, inl, inr, zero, suc}
+use Rattle.std.proofs.lemmas.Bool.{false≢true, cases_lt, or_parts, eqb-false}
 use Rattle.std.proofs.lemmas.Bool.Decides.{nat_tests}
 use Rattle.std.proofs.lemmas.Option.{slice_get_past}
 use Rattle.std.specs.Option.{option_map_or}
@@ -13,8 +13,8 @@ use Rattle.path_laws.specs.declared.graph.Mark.TheVariants.{Plain}
 use Rattle.path_laws.specs.Graph.{Graph, may_read, may_write, kills, is_directive, mark_is_directive}
 use Rattle.exclusion_equations.specs.declared.signature.Signature.{Signature}
 use Rattle.exclusion_equations.specs.Excluded.{IsExactly}
-use Rattle.exclusion_equations.specs.Classes.{AreAlike, AreClasses, Partition}
-use Rattle.exclusion_equations.specs.Finding.{HasWidth, IsSignature, AreSame, signature_at, AreFound, Marks}
+use Rattle.exclusion_equations.specs.Classes.{AreAlike, AreClasses}
+use Rattle.exclusion_equations.specs.Finding.{HasWidth, IsSignature, AreSame, signature_at, AreFound}
 
 -- a node that is not there has no cells and no mark
 pub no_read : (g : Graph) (n c : ℕ) → length g.nodes ≤ n → may_read g n c ≡ false

@@ -1,19 +1,18 @@
 -- Dead and read-only cells by what nodes come to.
-use Rattle.std.proofs.Common.{ℕ, ◌<◌, ◌≤◌, ◌≡◌, Bool, true, false, ◌&&◌, ◌||◌, not, List, [], ◌∷◌, length, arith, sym, ap, ◌∙◌, refl, inl, inr, ◌⊎◌, subst}
-use Rattle.std.proofs.lemmas.Bool.{false≢true, cases_Bool, and_parts, and_from, not-true, not-false}
+use Rattle.std.proofs.Common.{ℕ, ◌<◌, ◌≡◌, Bool, true, false, ◌&&◌, not, List, [], ◌∷◌, length, sym, ap, ◌∙◌, refl, inl, inr}
+use Rattle.std.proofs.lemmas.Bool.{false≢true, cases_Bool, and_parts, and_from, not-true}
 use Rattle.cell_sets.specs.Sets.{Cells, has}
 use Rattle.path_laws.specs.declared.graph.Mark.{Mark}
 use Rattle.path_laws.specs.declared.graph.Mark.TheVariants.{Plain, Checkpoint, Exclude}
-use Rattle.path_laws.specs.Graph.{Graph, has_edge, mark_of, may_read, may_write, kills, writes_of, is_checkpoint, is_exclude, is_directive, mark_is_checkpoint, mark_is_exclude, IsWhole}
-use Rattle.path_laws.specs.Walks.{IsWalk, IsWalkFrom, NoExclude, last_of}
-use Rattle.path_laws.specs.Reaching.{IsPath, Until, Reaches, in_row}
-use Rattle.path_laws.specs.Forgettable.{ReadsUnkilled, IsForgettable}
+use Rattle.path_laws.specs.Graph.{Graph, has_edge, mark_of, writes_of, is_checkpoint, is_exclude, is_directive, mark_is_checkpoint, mark_is_exclude, IsWhole}
+use Rattle.path_laws.specs.Walks.{IsWalkFrom, NoExclude, last_of}
+use Rattle.path_laws.specs.Reaching.{IsPath, Until, Reaches}
+use Rattle.path_laws.specs.Forgettable.{IsForgettable}
 use Rattle.path_laws.proofs.WorkLaws.{one_more}
-use Rattle.path_laws.proofs.GraphLaws.{edge_from}
 use Rattle.exclusion_equations.specs.declared.equations.Effect.TheVariants.{Reads, Kills}
 use Rattle.exclusion_equations.specs.Excluded.{Leads, IsDead, WritesBefore, IsReadOnly, IsExactly}
 use Rattle.exclusion_equations.specs.Classes.{Partition, AreAlike, AreClasses, class_of, class_count, first_of}
-use Rattle.exclusion_equations.specs.Rows.{AreReached, after, has_effect, at_checkpoint, at_exclude, wanted_at, written_at, AreSpoiled, AreWritten}
+use Rattle.exclusion_equations.specs.Rows.{AreReached, after, has_effect, at_checkpoint, at_exclude, written_at, AreSpoiled, AreWritten}
 use Rattle.exclusion_equations.proofs.ReachLaws.{path_of_walk, walk_of_path, last_in, until_same, after_from, from_after}
 
 -- a class k that is wanted after node n, as rows say, and a cell c of it

@@ -1,11 +1,11 @@
 -- From what the solver says to walks of the graph.
-use Rattle.std.proofs.Common.{ℕ, ◌<◌, ◌≤◌, ◌≡◌, Bool, true, false, ◌&&◌, ◌||◌, List, [], ◌∷◌, length, arith, sym, ap, ◌∙◌, refl, eqb, inl, inr, ◌⊎◌, Option, Some, None}
+use Rattle.std.proofs.Common.{ℕ, ◌<◌, ◌≡◌, Bool, true, ◌||◌, List, [], ◌∷◌, length, arith, sym, ◌∙◌, refl, inl, inr, Option, Some, None}
 use Rattle.std.proofs.lemmas.Bool.{false≢true, or_cases, or_left, or_right, eq-eqb, eqb-true}
-use Rattle.cell_sets.specs.Sets.{Cells, has}
+use Rattle.cell_sets.specs.Sets.{Cells}
 use Rattle.path_laws.specs.Edge.{is_at}
 use Rattle.path_laws.specs.Graph.{Graph, has_edge, next_of, IsWhole}
 use Rattle.path_laws.specs.Walks.{IsWalkFrom, last_of}
-use Rattle.path_laws.specs.Reaching.{joins, IsPath, Until, Reaches, in_row, AllWide, IsSolution}
+use Rattle.path_laws.specs.Reaching.{joins, IsPath, Until, in_row, AllWide, IsSolution}
 use Rattle.path_laws.proofs.GraphLaws.{edge_from}
 use Rattle.path_laws.proofs.RowLaws.{row_in}
 use Rattle.exclusion_equations.specs.Rows.{AreRows, AreReached, next_has, after}

@@ -1,5 +1,5 @@
 -- Rows by nodes.
-use Rattle.std.proofs.Common.{ℕ, ◌+◌, ◌<◌, ◌≤◌, ◌≡◌, Bool, true, false, List, [], ◌∷◌, ◌++◌, length, length-append, get_or, arith, subst, sym, ap, ◌∙◌, refl, ◌&&◌, ◌||◌, eqb, ltb, inl, inr, ◌⊎◌, zero, suc}
+use Rattle.std.proofs.Common.{ℕ, ◌+◌, ◌<◌, ◌≤◌, ◌≡◌, Bool, true, false, List, [], ◌∷◌, ◌++◌, length, length-append, arith, subst, sym, ap, ◌∙◌, refl, ◌&&◌, ◌||◌, eqb, ltb, inl, inr, zero, suc}
 use Rattle.std.proofs.lemmas.Bool.{cases_lt, cases_eq, eq-eqb, ne_eqb, lt-ltb}
 use Rattle.std.proofs.lemmas.Bool.Decides.{nat_tests}
 use Rattle.cell_sets.specs.Sets.{Cells, has}

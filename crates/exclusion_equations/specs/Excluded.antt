@@ -1,5 +1,5 @@
 -- Cells that an image may leave out.
-use Rattle.std.specs.Prelude.{ℕ, ◌-◌, ◌<◌, ◌≤◌, ◌≡◌, Bool, true, false, List, [], ◌∷◌, length, slice_index_or, ◌⊎◌, ◌↔◌}
+use Rattle.std.specs.Prelude.{ℕ, ◌-◌, ◌<◌, ◌≤◌, ◌≡◌, true, List, [], ◌∷◌, length, slice_index_or, ◌⊎◌, ◌↔◌}
 use Rattle.cell_sets.specs.Sets.{Cells, universe_of, has}
 use Rattle.path_laws.specs.Graph.{Graph, may_write, is_checkpoint, is_directive, exclude_count}
 use Rattle.path_laws.specs.Walks.{IsWalk, NoExclude, last_of}

@@ -1,5 +1,5 @@
 -- Rows over classes.
-use Rattle.std.specs.Prelude.{ℕ, ◌<◌, ◌≡◌, Bool, true, false, ◌&&◌, ◌||◌, not, List, [], ◌∷◌, length, Option, Some, None}
+use Rattle.std.specs.Prelude.{ℕ, ◌<◌, ◌≡◌, Bool, true, false, ◌&&◌, ◌||◌, not, List, length, Option, Some, None}
 use Rattle.cell_sets.specs.Sets.{Cells, has}
 use Rattle.path_laws.specs.Graph.{Graph, has_edge, next_of, reads_of, writes_of, kills_of, is_checkpoint, is_exclude}
 use Rattle.path_laws.specs.Reaching.{Reaches, in_row, AllWide}

@@ -11,15 +11,11 @@ use std::test::Fail;
 // The first cell of a set, and how many follow each other.
 type Span = (u8, u8);
 
+const NO: Span = (0, 0);
+
 // The nodes after a node, its mark, and the cells that it may read, may write and kills.
 #[derive(Clone, Copy)]
-struct Line {
-    next: (Option<u32>, Option<u32>),
-    mark: Mark,
-    reads: Span,
-    writes: Span,
-    kills: Span,
-}
+struct Line((Option<u32>, Option<u32>), Mark, Span, Span, Span);
 
 fn set(alloc: Global, cells: u32, span: Span) -> Result<CellSet, NoMemory>
     ensures universe { IfOk result (λ s. universe_of s ≡ cells) }
@@ -38,10 +34,10 @@ fn grow(alloc: Global, graph: &mut EffectGraph, line: &Line) -> Result<(), NoMem
         return Err(NoMemory);
     }
     let cells = graph.cells();
-    let reads = set(alloc, cells, line.reads)?;
-    let writes = set(alloc, cells, line.writes)?;
-    let kills = set(alloc, cells, line.kills)?;
-    graph.add(line.next, line.mark, reads, writes, kills)?;
+    let reads = set(alloc, cells, line.2)?;
+    let writes = set(alloc, cells, line.3)?;
+    let kills = set(alloc, cells, line.4)?;
+    graph.add(line.0, line.1, reads, writes, kills)?;
     Ok(())
 }
 
@@ -67,435 +63,81 @@ fn excluded(alloc: Global, cells: u32, lines: &[Line]) -> Result<(Vec<Run>, Vec<
 
 // a[0..3], t, i: the squares of 0 to 3, with a checkpoint after each.
 const SQUARES: [Line; 11] = [
-    Line {
-        next: (Some(1), None),
-        mark: Mark::Plain,
-        reads: (0, 0),
-        writes: (5, 1),
-        kills: (5, 1),
-    },
-    Line {
-        next: (Some(2), None),
-        mark: Mark::Exclude(1),
-        reads: (0, 0),
-        writes: (0, 0),
-        kills: (0, 0),
-    },
-    Line {
-        next: (Some(3), None),
-        mark: Mark::Plain,
-        reads: (0, 0),
-        writes: (5, 1),
-        kills: (5, 1),
-    },
-    Line {
-        next: (Some(5), Some(8)),
-        mark: Mark::Plain,
-        reads: (5, 1),
-        writes: (0, 0),
-        kills: (0, 0),
-    },
-    Line {
-        next: (Some(3), None),
-        mark: Mark::Plain,
-        reads: (5, 1),
-        writes: (5, 1),
-        kills: (5, 1),
-    },
-    Line {
-        next: (Some(6), None),
-        mark: Mark::Plain,
-        reads: (5, 1),
-        writes: (4, 1),
-        kills: (4, 1),
-    },
-    Line {
-        next: (Some(7), None),
-        mark: Mark::Plain,
-        reads: (4, 2),
-        writes: (0, 4),
-        kills: (0, 0),
-    },
-    Line {
-        next: (Some(4), None),
-        mark: Mark::Checkpoint,
-        reads: (0, 0),
-        writes: (0, 0),
-        kills: (0, 0),
-    },
-    Line {
-        next: (Some(9), None),
-        mark: Mark::Plain,
-        reads: (3, 1),
-        writes: (0, 0),
-        kills: (0, 0),
-    },
-    Line {
-        next: (Some(10), None),
-        mark: Mark::Plain,
-        reads: (0, 0),
-        writes: (0, 0),
-        kills: (0, 0),
-    },
-    Line {
-        next: (None, None),
-        mark: Mark::Plain,
-        reads: (0, 0),
-        writes: (0, 0),
-        kills: (0, 0),
-    },
+    Line((Some(1), None), Mark::Plain, NO, (5, 1), (5, 1)),
+    Line((Some(2), None), Mark::Exclude(1), NO, NO, NO),
+    Line((Some(3), None), Mark::Plain, NO, (5, 1), (5, 1)),
+    Line((Some(5), Some(8)), Mark::Plain, (5, 1), NO, NO),
+    Line((Some(3), None), Mark::Plain, (5, 1), (5, 1), (5, 1)),
+    Line((Some(6), None), Mark::Plain, (5, 1), (4, 1), (4, 1)),
+    Line((Some(7), None), Mark::Plain, (4, 2), (0, 4), NO),
+    Line((Some(4), None), Mark::Checkpoint, NO, NO, NO),
+    Line((Some(9), None), Mark::Plain, (3, 1), NO, NO),
+    Line((Some(10), None), Mark::Plain, NO, NO, NO),
+    Line((None, None), Mark::Plain, NO, NO, NO),
 ];
 
 // n[0..2], x, i: a sum over an array, with a checkpoint after each number.
 const SUMS: [Line; 14] = [
-    Line {
-        next: (Some(1), None),
-        mark: Mark::Plain,
-        reads: (0, 0),
-        writes: (4, 1),
-        kills: (4, 1),
-    },
-    Line {
-        next: (Some(2), None),
-        mark: Mark::Plain,
-        reads: (0, 0),
-        writes: (0, 1),
-        kills: (0, 1),
-    },
-    Line {
-        next: (Some(3), None),
-        mark: Mark::Plain,
-        reads: (0, 0),
-        writes: (1, 1),
-        kills: (1, 1),
-    },
-    Line {
-        next: (Some(4), None),
-        mark: Mark::Plain,
-        reads: (0, 0),
-        writes: (2, 1),
-        kills: (2, 1),
-    },
-    Line {
-        next: (Some(5), None),
-        mark: Mark::Plain,
-        reads: (0, 0),
-        writes: (3, 1),
-        kills: (3, 1),
-    },
-    Line {
-        next: (Some(6), None),
-        mark: Mark::Plain,
-        reads: (0, 0),
-        writes: (4, 1),
-        kills: (4, 1),
-    },
-    Line {
-        next: (Some(7), None),
-        mark: Mark::Exclude(1),
-        reads: (0, 0),
-        writes: (0, 0),
-        kills: (0, 0),
-    },
-    Line {
-        next: (Some(8), Some(11)),
-        mark: Mark::Plain,
-        reads: (4, 1),
-        writes: (0, 0),
-        kills: (0, 0),
-    },
-    Line {
-        next: (Some(9), None),
-        mark: Mark::Plain,
-        reads: (0, 5),
-        writes: (3, 1),
-        kills: (3, 1),
-    },
-    Line {
-        next: (Some(10), None),
-        mark: Mark::Plain,
-        reads: (4, 1),
-        writes: (4, 1),
-        kills: (4, 1),
-    },
-    Line {
-        next: (Some(7), None),
-        mark: Mark::Checkpoint,
-        reads: (0, 0),
-        writes: (0, 0),
-        kills: (0, 0),
-    },
-    Line {
-        next: (Some(12), None),
-        mark: Mark::Plain,
-        reads: (3, 1),
-        writes: (0, 0),
-        kills: (0, 0),
-    },
-    Line {
-        next: (Some(13), None),
-        mark: Mark::Plain,
-        reads: (0, 0),
-        writes: (0, 0),
-        kills: (0, 0),
-    },
-    Line {
-        next: (None, None),
-        mark: Mark::Plain,
-        reads: (0, 0),
-        writes: (0, 0),
-        kills: (0, 0),
-    },
+    Line((Some(1), None), Mark::Plain, NO, (4, 1), (4, 1)),
+    Line((Some(2), None), Mark::Plain, NO, (0, 1), (0, 1)),
+    Line((Some(3), None), Mark::Plain, NO, (1, 1), (1, 1)),
+    Line((Some(4), None), Mark::Plain, NO, (2, 1), (2, 1)),
+    Line((Some(5), None), Mark::Plain, NO, (3, 1), (3, 1)),
+    Line((Some(6), None), Mark::Plain, NO, (4, 1), (4, 1)),
+    Line((Some(7), None), Mark::Exclude(1), NO, NO, NO),
+    Line((Some(8), Some(11)), Mark::Plain, (4, 1), NO, NO),
+    Line((Some(9), None), Mark::Plain, (0, 5), (3, 1), (3, 1)),
+    Line((Some(10), None), Mark::Plain, (4, 1), (4, 1), (4, 1)),
+    Line((Some(7), None), Mark::Checkpoint, NO, NO, NO),
+    Line((Some(12), None), Mark::Plain, (3, 1), NO, NO),
+    Line((Some(13), None), Mark::Plain, NO, NO, NO),
+    Line((None, None), Mark::Plain, NO, NO, NO),
 ];
 
 // n, x, i: an exclude and two checkpoints in each turn.
 const TURNS: [Line; 14] = [
-    Line {
-        next: (Some(1), None),
-        mark: Mark::Plain,
-        reads: (0, 0),
-        writes: (2, 1),
-        kills: (2, 1),
-    },
-    Line {
-        next: (Some(2), None),
-        mark: Mark::Plain,
-        reads: (0, 0),
-        writes: (0, 1),
-        kills: (0, 1),
-    },
-    Line {
-        next: (Some(3), None),
-        mark: Mark::Plain,
-        reads: (0, 0),
-        writes: (2, 1),
-        kills: (2, 1),
-    },
-    Line {
-        next: (Some(5), Some(11)),
-        mark: Mark::Plain,
-        reads: (2, 1),
-        writes: (0, 0),
-        kills: (0, 0),
-    },
-    Line {
-        next: (Some(3), None),
-        mark: Mark::Plain,
-        reads: (2, 1),
-        writes: (2, 1),
-        kills: (2, 1),
-    },
-    Line {
-        next: (Some(6), None),
-        mark: Mark::Plain,
-        reads: (0, 1),
-        writes: (0, 1),
-        kills: (0, 1),
-    },
-    Line {
-        next: (Some(7), None),
-        mark: Mark::Exclude(1),
-        reads: (0, 0),
-        writes: (0, 0),
-        kills: (0, 0),
-    },
-    Line {
-        next: (Some(8), None),
-        mark: Mark::Plain,
-        reads: (0, 2),
-        writes: (1, 1),
-        kills: (1, 1),
-    },
-    Line {
-        next: (Some(9), None),
-        mark: Mark::Checkpoint,
-        reads: (0, 0),
-        writes: (0, 0),
-        kills: (0, 0),
-    },
-    Line {
-        next: (Some(10), None),
-        mark: Mark::Plain,
-        reads: (0, 2),
-        writes: (1, 1),
-        kills: (1, 1),
-    },
-    Line {
-        next: (Some(4), None),
-        mark: Mark::Checkpoint,
-        reads: (0, 0),
-        writes: (0, 0),
-        kills: (0, 0),
-    },
-    Line {
-        next: (Some(12), None),
-        mark: Mark::Plain,
-        reads: (1, 1),
-        writes: (0, 0),
-        kills: (0, 0),
-    },
-    Line {
-        next: (Some(13), None),
-        mark: Mark::Plain,
-        reads: (0, 0),
-        writes: (0, 0),
-        kills: (0, 0),
-    },
-    Line {
-        next: (None, None),
-        mark: Mark::Plain,
-        reads: (0, 0),
-        writes: (0, 0),
-        kills: (0, 0),
-    },
+    Line((Some(1), None), Mark::Plain, NO, (2, 1), (2, 1)),
+    Line((Some(2), None), Mark::Plain, NO, (0, 1), (0, 1)),
+    Line((Some(3), None), Mark::Plain, NO, (2, 1), (2, 1)),
+    Line((Some(5), Some(11)), Mark::Plain, (2, 1), NO, NO),
+    Line((Some(3), None), Mark::Plain, (2, 1), (2, 1), (2, 1)),
+    Line((Some(6), None), Mark::Plain, (0, 1), (0, 1), (0, 1)),
+    Line((Some(7), None), Mark::Exclude(1), NO, NO, NO),
+    Line((Some(8), None), Mark::Plain, (0, 2), (1, 1), (1, 1)),
+    Line((Some(9), None), Mark::Checkpoint, NO, NO, NO),
+    Line((Some(10), None), Mark::Plain, (0, 2), (1, 1), (1, 1)),
+    Line((Some(4), None), Mark::Checkpoint, NO, NO, NO),
+    Line((Some(12), None), Mark::Plain, (1, 1), NO, NO),
+    Line((Some(13), None), Mark::Plain, NO, NO, NO),
+    Line((None, None), Mark::Plain, NO, NO, NO),
 ];
 
 // x, y, p, c: a write through a pointer that may name x or y.
 const TWO_TARGETS: [Line; 12] = [
-    Line {
-        next: (Some(1), None),
-        mark: Mark::Plain,
-        reads: (0, 0),
-        writes: (3, 1),
-        kills: (3, 1),
-    },
-    Line {
-        next: (Some(2), None),
-        mark: Mark::Plain,
-        reads: (0, 0),
-        writes: (3, 1),
-        kills: (3, 1),
-    },
-    Line {
-        next: (Some(3), Some(4)),
-        mark: Mark::Plain,
-        reads: (3, 1),
-        writes: (0, 0),
-        kills: (0, 0),
-    },
-    Line {
-        next: (Some(5), None),
-        mark: Mark::Plain,
-        reads: (0, 0),
-        writes: (2, 1),
-        kills: (2, 1),
-    },
-    Line {
-        next: (Some(5), None),
-        mark: Mark::Plain,
-        reads: (0, 0),
-        writes: (2, 1),
-        kills: (2, 1),
-    },
-    Line {
-        next: (Some(6), None),
-        mark: Mark::Plain,
-        reads: (0, 0),
-        writes: (0, 1),
-        kills: (0, 1),
-    },
-    Line {
-        next: (Some(7), None),
-        mark: Mark::Exclude(1),
-        reads: (0, 0),
-        writes: (0, 0),
-        kills: (0, 0),
-    },
-    Line {
-        next: (Some(8), None),
-        mark: Mark::Checkpoint,
-        reads: (0, 0),
-        writes: (0, 0),
-        kills: (0, 0),
-    },
-    Line {
-        next: (Some(9), None),
-        mark: Mark::Plain,
-        reads: (2, 1),
-        writes: (0, 2),
-        kills: (0, 0),
-    },
-    Line {
-        next: (Some(10), None),
-        mark: Mark::Plain,
-        reads: (0, 1),
-        writes: (0, 0),
-        kills: (0, 0),
-    },
-    Line {
-        next: (Some(11), None),
-        mark: Mark::Plain,
-        reads: (0, 0),
-        writes: (0, 0),
-        kills: (0, 0),
-    },
-    Line {
-        next: (None, None),
-        mark: Mark::Plain,
-        reads: (0, 0),
-        writes: (0, 0),
-        kills: (0, 0),
-    },
+    Line((Some(1), None), Mark::Plain, NO, (3, 1), (3, 1)),
+    Line((Some(2), None), Mark::Plain, NO, (3, 1), (3, 1)),
+    Line((Some(3), Some(4)), Mark::Plain, (3, 1), NO, NO),
+    Line((Some(5), None), Mark::Plain, NO, (2, 1), (2, 1)),
+    Line((Some(5), None), Mark::Plain, NO, (2, 1), (2, 1)),
+    Line((Some(6), None), Mark::Plain, NO, (0, 1), (0, 1)),
+    Line((Some(7), None), Mark::Exclude(1), NO, NO, NO),
+    Line((Some(8), None), Mark::Checkpoint, NO, NO, NO),
+    Line((Some(9), None), Mark::Plain, (2, 1), (0, 2), NO),
+    Line((Some(10), None), Mark::Plain, (0, 1), NO, NO),
+    Line((Some(11), None), Mark::Plain, NO, NO, NO),
+    Line((None, None), Mark::Plain, NO, NO, NO),
 ];
 
 // x, y, p: a write through a pointer that names x.
 const ONE_TARGET: [Line; 8] = [
-    Line {
-        next: (Some(1), None),
-        mark: Mark::Plain,
-        reads: (0, 0),
-        writes: (2, 1),
-        kills: (2, 1),
-    },
-    Line {
-        next: (Some(2), None),
-        mark: Mark::Plain,
-        reads: (0, 0),
-        writes: (0, 1),
-        kills: (0, 1),
-    },
-    Line {
-        next: (Some(3), None),
-        mark: Mark::Exclude(1),
-        reads: (0, 0),
-        writes: (0, 0),
-        kills: (0, 0),
-    },
-    Line {
-        next: (Some(4), None),
-        mark: Mark::Checkpoint,
-        reads: (0, 0),
-        writes: (0, 0),
-        kills: (0, 0),
-    },
-    Line {
-        next: (Some(5), None),
-        mark: Mark::Plain,
-        reads: (2, 1),
-        writes: (0, 1),
-        kills: (0, 1),
-    },
-    Line {
-        next: (Some(6), None),
-        mark: Mark::Plain,
-        reads: (0, 1),
-        writes: (0, 0),
-        kills: (0, 0),
-    },
-    Line {
-        next: (Some(7), None),
-        mark: Mark::Plain,
-        reads: (0, 0),
-        writes: (0, 0),
-        kills: (0, 0),
-    },
-    Line {
-        next: (None, None),
-        mark: Mark::Plain,
-        reads: (0, 0),
-        writes: (0, 0),
-        kills: (0, 0),
-    },
+    Line((Some(1), None), Mark::Plain, NO, (2, 1), (2, 1)),
+    Line((Some(2), None), Mark::Plain, NO, (0, 1), (0, 1)),
+    Line((Some(3), None), Mark::Exclude(1), NO, NO, NO),
+    Line((Some(4), None), Mark::Checkpoint, NO, NO, NO),
+    Line((Some(5), None), Mark::Plain, (2, 1), (0, 1), (0, 1)),
+    Line((Some(6), None), Mark::Plain, (0, 1), NO, NO),
+    Line((Some(7), None), Mark::Plain, NO, NO, NO),
+    Line((None, None), Mark::Plain, NO, NO, NO),
 ];
 
 #[test]

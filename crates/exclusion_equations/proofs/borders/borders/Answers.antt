@@ -1,6 +1,5 @@
-use Rattle.std.proofs.Common.{ℕ, ◌≡◌, ◌<◌, ◌+◌, ◌≤◌, Bool, true, false, ◌∙◌, sym, ap, arith, inl, inr}
+use Rattle.std.proofs.Common.{◌+◌, ◌∙◌, sym, arith, inl, inr}
 use Rattle.std.proofs.lemmas.Bool.{cases_lt}
-use Rattle.cell_sets.specs.Sets.{Cells, has}
 use Rattle.path_laws.specs.Graph.{reads_of, writes_of, kills_of}
 use Rattle.exclusion_equations.proofs.ClassLaws.{border_more, no_read, no_write, no_kill}
 use Rattle.exclusion_equations.proofs.borders.borders.Goals as goal

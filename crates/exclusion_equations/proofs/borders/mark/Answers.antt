@@ -1,4 +1,4 @@
-use Rattle.std.proofs.Common.{◌+◌, ◌≤◌, List, length, subst, sym, arith}
+use Rattle.std.proofs.Common.{◌+◌, List, length, subst, sym, arith}
 use Rattle.cell_sets.specs.declared.runs.Run.{Run}
 use Rattle.cell_sets.specs.Runs.{IsRising}
 use Rattle.cell_sets.proofs.RunLaws.{run_within}

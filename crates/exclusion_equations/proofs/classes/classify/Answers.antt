@@ -1,4 +1,4 @@
-use Rattle.std.proofs.Common.{ℕ, ◌≡◌, ◌<◌, ◌+◌, List, length, ap, sym, subst, arith}
+use Rattle.std.proofs.Common.{ℕ, ◌<◌, ◌+◌, List, length, ap, sym, subst, arith}
 use Rattle.exclusion_equations.specs.declared.signature.Signature.{Signature}
 use Rattle.exclusion_equations.specs.Finding.{AreFound, AreSame, signature_at}
 use Rattle.exclusion_equations.proofs.ClassLaws.{found_same, found_grown, signature_same}

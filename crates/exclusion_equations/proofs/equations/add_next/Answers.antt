@@ -1,4 +1,4 @@
-use Rattle.std.proofs.Common.{◌≡◌, ◌||◌, length, ℕ, [], sym, ap, ◌∙◌, refl}
+use Rattle.std.proofs.Common.{◌||◌, length, [], sym, ap, ◌∙◌, refl}
 use Rattle.std.proofs.lemmas.Bool.{eq-eqb}
 use Rattle.std.proofs.lemmas.List.{get_or_read}
 use Rattle.cell_sets.specs.Sets.{has}

@@ -1,4 +1,3 @@
-use Rattle.exclusion_equations.specs.Classes.{class_count}
 use Rattle.exclusion_equations.specs.Rows.{AreRows, at_checkpoint}
 use Rattle.exclusion_equations.proofs.equations.checkpoint_rows.Given as goal
 

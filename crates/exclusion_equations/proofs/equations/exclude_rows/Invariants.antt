@@ -1,4 +1,3 @@
-use Rattle.exclusion_equations.specs.Classes.{class_count}
 use Rattle.exclusion_equations.specs.Rows.{AreRows, at_exclude}
 use Rattle.exclusion_equations.proofs.equations.exclude_rows.Given as goal
 

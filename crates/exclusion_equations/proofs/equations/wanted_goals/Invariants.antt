@@ -1,4 +1,3 @@
-use Rattle.exclusion_equations.specs.Classes.{class_count}
 use Rattle.exclusion_equations.specs.Rows.{AreRows, wanted_at}
 use Rattle.exclusion_equations.proofs.equations.wanted_goals.Given as goal
 

@@ -1,4 +1,3 @@
-use Rattle.std.proofs.Common.{◌<◌}
 use Rattle.exclusion_equations.specs.Classes.{class_count}
 use Rattle.exclusion_equations.specs.Rows.{written_at}
 use Rattle.exclusion_equations.proofs.RowLaws.{rows_more}

@@ -1,4 +1,4 @@
-use Rattle.std.proofs.Common.{◌≡◌, ◌+◌, ◌∷◌, [], length, length-append, ap, arith, List}
+use Rattle.std.proofs.Common.{◌+◌, ◌∷◌, [], length, length-append, ap, arith, List}
 use Rattle.cell_sets.specs.Sets.{Cells}
 use Rattle.exclusion_equations.specs.Excluded.{IsDead, IsReadOnly}
 use Rattle.exclusion_equations.proofs.ClassLaws.{exact_push}

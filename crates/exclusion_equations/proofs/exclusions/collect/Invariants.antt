@@ -1,5 +1,4 @@
 use Rattle.std.proofs.Common.{ℕ, ◌≡◌, ◌<◌, ◌+◌, length, get_or, []}
-use Rattle.path_laws.specs.Graph.{is_directive}
 use Rattle.exclusion_equations.specs.Excluded.{IsDead, IsReadOnly, IsExactly}
 use Rattle.exclusion_equations.proofs.exclusions.collect.Given as goal
 

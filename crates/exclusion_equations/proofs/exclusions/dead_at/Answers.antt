@@ -1,4 +1,4 @@
-use Rattle.std.proofs.Common.{◌≡◌, ◌<◌, ◌∙◌, arith}
+use Rattle.std.proofs.Common.{◌∙◌, arith}
 use Rattle.exclusion_equations.proofs.ExcludedLaws.{dead_exactly}
 use Rattle.exclusion_equations.proofs.exclusions.dead_at.Goals as goal
 

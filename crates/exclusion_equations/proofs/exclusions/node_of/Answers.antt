@@ -1,4 +1,4 @@
-use Rattle.std.proofs.Common.{◌≡◌, ◌<◌, ◌∙◌, sym, arith}
+use Rattle.std.proofs.Common.{◌∙◌, sym, arith}
 use Rattle.std.proofs.lemmas.Bool.{false≢true}
 use Rattle.exclusion_equations.proofs.ClassLaws.{directive_in}
 use Rattle.exclusion_equations.proofs.exclusions.node_of.Goals as goal

@@ -1,4 +1,4 @@
-use Rattle.std.proofs.Common.{◌≡◌, ◌<◌, ◌∙◌, arith}
+use Rattle.std.proofs.Common.{◌∙◌, arith}
 use Rattle.exclusion_equations.proofs.ExcludedLaws.{read_only_exactly}
 use Rattle.exclusion_equations.proofs.exclusions.read_only_at.Goals as goal
 

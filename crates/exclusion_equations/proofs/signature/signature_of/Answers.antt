@@ -1,4 +1,4 @@
-use Rattle.std.proofs.Common.{ℕ, ◌≡◌, ◌∙◌, ap, arith}
+use Rattle.std.proofs.Common.{◌∙◌, ap, arith}
 use Rattle.cell_sets.specs.Sets.{has}
 use Rattle.path_laws.specs.Graph.{may_read, may_write, kills}
 use Rattle.exclusion_equations.proofs.RowLaws.{tested_more, tested_all}

@@ -1,5 +1,5 @@
-use Rattle.std.proofs.Common.{ℕ, ◌≡◌, ◌≤◌, ◌+◌, true, subst, arith, inl, inr}
-use Rattle.std.proofs.lemmas.Bool.{cases_lt, not-false}
+use Rattle.std.proofs.Common.{ℕ, ◌≡◌, ◌+◌, true, subst, arith, inl, inr}
+use Rattle.std.proofs.lemmas.Bool.{cases_lt}
 use Rattle.path_laws.specs.Graph.{is_directive}
 use Rattle.path_laws.proofs.whole.numbers_are_there.Goals as goal
 

@@ -1,4 +1,4 @@
-use Rattle.std.proofs.Common.{ℕ, ◌≡◌, ◌<◌, ◌≤◌, true}
+use Rattle.std.proofs.Common.{ℕ, ◌≡◌, ◌≤◌, true}
 use Rattle.path_laws.specs.Graph.{is_directive}
 use Rattle.path_laws.proofs.whole.numbers_are_there.Given as goal
 

@@ -1,4 +1,4 @@
-use Rattle.std.proofs.Common.{◌≡◌, ◌∙◌, arith}
+use Rattle.std.proofs.Common.{arith}
 use Rattle.exclusion_equations.proofs.ClassLaws.{classes_found}
 use Rattle.exclusion_equations.proofs.classes.Classes.of.Goals as goal
 
