@@ -4,9 +4,15 @@
 mod bytes;
 mod ending;
 mod errors;
+mod faults;
+mod shelf;
+mod sink;
 mod text;
 
 pub use bytes::Bytes;
 pub use ending::Ending;
 pub use errors::{Failed, NoMemory};
+pub use faults::{count_on, fails_at};
+pub use shelf::{MemShelf, Shelf};
+pub use sink::{MemSink, Sink};
 pub use text::Text;
