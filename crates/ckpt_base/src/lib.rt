@@ -5,8 +5,11 @@ mod bytes;
 mod ending;
 mod errors;
 mod text;
+mod trap;
+pub mod word;
 
 pub use bytes::Bytes;
 pub use ending::Ending;
 pub use errors::{Failed, NoMemory};
 pub use text::Text;
+pub use trap::Trap;
