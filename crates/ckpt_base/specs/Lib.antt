@@ -8,3 +8,11 @@ pub mod Sink
 pub mod Shelf
 -- the files of a shelf in memory
 pub mod ShelfFiles
+-- the numbers of the traps
+pub mod Trap
+-- the operators on words
+pub mod Word
+-- what a run does that shows
+pub mod Event
+-- what a run gives, and its output
+pub mod Run

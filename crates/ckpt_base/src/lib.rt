@@ -8,6 +8,8 @@ mod faults;
 mod shelf;
 mod sink;
 mod text;
+mod trap;
+pub mod word;
 
 pub use bytes::Bytes;
 pub use ending::Ending;
@@ -16,3 +18,4 @@ pub use faults::{count_on, fails_at};
 pub use shelf::{MemShelf, Shelf};
 pub use sink::{MemSink, Sink};
 pub use text::Text;
+pub use trap::Trap;
