@@ -7,6 +7,8 @@ mod errors;
 mod faults;
 mod shelf;
 mod sink;
+#[cfg(test)]
+mod tests;
 mod text;
 mod trap;
 pub mod word;
