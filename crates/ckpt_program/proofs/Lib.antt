@@ -1,2 +1,4 @@
-mod Prefix
+mod Checks
 mod Choices
+mod FewNodes
+mod Prefix
