@@ -6,7 +6,9 @@
 //! is deeper than the bound.
 #![tactic(auto)]
 
+mod expressions;
 mod fault;
+mod look;
 mod scan;
 
 pub use fault::ReadFault;

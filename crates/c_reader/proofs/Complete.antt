@@ -1,0 +1,1 @@
+-- What is spelled is read: expressions.
