@@ -5,3 +5,5 @@ pub mod Tests
 pub mod Turns
 pub mod Complete
 pub mod Sound
+pub mod Statements
+pub mod Blocks

@@ -9,6 +9,7 @@
 mod expressions;
 mod fault;
 mod look;
+mod programs;
 mod scan;
 
 pub use fault::ReadFault;
