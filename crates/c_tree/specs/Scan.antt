@@ -1,5 +1,5 @@
 -- The tokens of a text: what stands at the front, piece after piece (C99, 6.4).
-use Rattle.std.specs.Prelude.{◌≡◌, ℕ, zero, suc, ◌+◌, ◌-◌, ◌*◌, ◌^◌, Bool, true, false, ◌&&◌, ◌||◌, not, if◌then◌else◌, ◌==◌, nat_le, List, [], ◌∷◌, length, drop, take_while, Option, Some, None, Result, Ok, Err, codes, bytes_eq}
+use Rattle.std.specs.Prelude.{◌≡◌, ℕ, zero, suc, ◌+◌, ◌-◌, ◌*◌, ◌^◌, Bool, true, false, ◌&&◌, ◌||◌, not, if◌then◌else◌, ◌==◌, nat_le, List, [], ◌∷◌, length, take, drop, slice_index_or, take_while, Option, Some, None, Result, Ok, Err, codes, bytes_eq}
 use Rattle.c_tree.specs.declared.token.Token.{Token}
 use Rattle.c_tree.specs.declared.token.Kind.{Kind}
 use Rattle.c_tree.specs.declared.token.Kind.TheVariants as kind
@@ -38,9 +38,7 @@ leading_zero (b ∷ c ∷ bs) = b == 48
 
 -- without the `L` that may stand at the end
 abbrev pub unsuffixed : List ℕ → List ℕ
-unsuffixed [] = []
-unsuffixed (b ∷ []) = if b == 76 then [] else b ∷ []
-unsuffixed (b ∷ c ∷ bs) = b ∷ unsuffixed (c ∷ bs)
+unsuffixed bs = if slice_index_or bs (length bs - 1) 0 == 76 then take (length bs - 1) bs else bs
 
 abbrev pub greatest : ℕ
 greatest = 2 ^ 63 - 1

@@ -46,7 +46,7 @@ pub struct Token {
 #[derive(Clone, Copy, Debug, PartialEq, Eq)]
 pub enum Piece {
     /// So many bytes that separate tokens, and how many lines end in them.
-    Blank(usize, usize),
+    Blank(usize, u32),
     /// A token of so many bytes.
     Is(Kind, usize),
     /// The byte after so many begins or continues no token.

@@ -1,0 +1,9 @@
+pub mod Runs
+pub mod Numbers
+pub mod Scans
+pub mod Tests
+pub mod Turns
+pub mod Complete
+pub mod Sound
+pub mod Statements
+pub mod Blocks
