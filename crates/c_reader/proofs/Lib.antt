@@ -7,3 +7,5 @@ pub mod Complete
 pub mod Sound
 pub mod Statements
 pub mod Blocks
+pub mod WholeTexts
+pub mod Accepted

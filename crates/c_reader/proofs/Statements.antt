@@ -1,5 +1,5 @@
 -- What is read is spelled, and what is spelled is read: statements.
-use Rattle.std.proofs.Common.{◌≡◌, ℕ, zero, suc, ◌+◌, ◌≤◌, ◌<◌, List, [], ◌∷◌, ◌++◌, length, Option, Some, None, refl, sym, ap, ◌∙◌, subst, arith, append_assoc, append-nil, length-append}
+use Rattle.std.proofs.Common.{◌≡◌, ℕ, ◌+◌, ◌≤◌, ◌<◌, List, [], ◌∷◌, ◌++◌, length, Some, refl, sym, ap, ◌∙◌, subst, arith, append_assoc, length-append}
 use Rattle.c_tree.specs.declared.token.Token.{Token}
 use Rattle.c_tree.specs.declared.token.Kind.{Kind}
 use Rattle.c_tree.specs.declared.token.Kind.TheVariants as kind
@@ -10,11 +10,11 @@ use Rattle.c_tree.specs.Scan.{at}
 use Rattle.c_tree.specs.Expressions.{Form}
 use Rattle.c_tree.specs.Expressions as expr'
 use Rattle.c_tree.specs.Statements.{StmtForm, Empty, Put, Return, tokens, tree, depth, IsWell}
-use Rattle.c_reader.specs.Reading.{Got, got, Read, ◌>>=◌, after, Inner, expr}
+use Rattle.c_reader.specs.Reading.{Got, got, ◌>>=◌, after, expr}
 use Rattle.c_reader.specs.ReadingPrograms.{unbracketed, bracketed, ended, statement_of, statement}
 use Rattle.c_reader.proofs.Tests.{after_is}
 use Rattle.c_reader.proofs.Complete.{spelled_read}
-use Rattle.c_reader.proofs.Sound.{Spelt, bind_some, read_spelt}
+use Rattle.c_reader.proofs.Sound.{bind_some, read_spelt}
 
 -- ---- what is spelled is read
 
@@ -130,7 +130,7 @@ pub stmt_sound : (d : ℕ) (ts : List Token) (x : Got Stmt) → statement d ts �
 stmt_sound d [] x h = absurd cc
 stmt_sound d (t ∷ ts) x h = kind_sound d t.line t.kind ts x h
 
-some_tokens : (s : StmtForm) → 0 < length (tokens s)
+pub some_tokens : (s : StmtForm) → 0 < length (tokens s)
 some_tokens (Empty e) = omega arith
 some_tokens (Put l o f c e) = omega arith
 some_tokens (Return l f e) = omega arith

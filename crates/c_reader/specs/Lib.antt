@@ -6,3 +6,5 @@ pub mod Reading
 pub mod ReadingPrograms
 -- what the reader of the code answers, beside the reader on lists
 pub mod Gives
+-- the fault of a text that spells no program
+pub mod ReadFaults

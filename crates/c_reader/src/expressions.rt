@@ -24,17 +24,19 @@ fn first(alloc: Global, tokens: &[Token], depth: usize) -> Result<(Expr, usize, 
     match tokens {
         [
             Token {
-                kind: Kind::Num(n), ..
+                kind: Kind::Num(n),
+                ..
             },
             rest @ ..,
         ] => Ok((Expr::Num(*n), 0, rest)),
         [
             Token {
-                kind: Kind::LParen, ..
+                kind: Kind::LParen,
+                ..
             },
-            rest @ ..,
+            ..
         ] => {
-            let (inner, inner_depth, after) = below(alloc, rest, depth, 1)?;
+            let (inner, inner_depth, after) = deeper(alloc, tokens, depth, 1)?;
             let end = expect(after, Kind::RParen)?;
             Ok((inner, inner_depth + 1, end))
         }
@@ -42,22 +44,22 @@ fn first(alloc: Global, tokens: &[Token], depth: usize) -> Result<(Expr, usize, 
     }
 }
 
-/// An expression of less than the depth, of operators that bind at least so tightly.
+/// After the first token, an expression of less than the depth, of operators that bind at least so tightly.
 #[cycle(expr)]
 #[tactic(auto, using(crate::proofs::Turns::below_zero, crate::proofs::Turns::below_some))]
-pub fn below(
+fn deeper(
     alloc: Global,
     tokens: &[Token],
     depth: usize,
     least: usize,
 ) -> Result<(Expr, usize, &[Token]), Fault>
-    ensures answer { Gives (λ x. reading.got x.0 x.1 x.2.now) result (reading.below depth least tokens.now) }
+    ensures answer { Gives (λ x. reading.got x.0 x.1 x.2.now) result (reading.below depth least (reading.tail tokens.now)) }
     ensures within { IfOk result (λ x. x.1 < depth) }
 {
     if depth == 0 {
         return Err(Fault::Unexpected(tokens.len()));
     }
-    expr(alloc, tokens, depth - 1, least)
+    expr(alloc, tail(tokens), depth - 1, least)
 }
 
 /// An expression within the depth, of operators that bind at least so tightly.
@@ -81,7 +83,7 @@ pub fn expr(
         if left_depth >= depth {
             return Err(Fault::Unexpected(rest.len()));
         }
-        let (right, right_depth, after) = below(alloc, tail(rest), depth, level + 1)?;
+        let (right, right_depth, after) = deeper(alloc, rest, depth, level + 1)?;
         left = Expr::Binary(op, Boxed::new(alloc, left)?, Boxed::new(alloc, right)?);
         left_depth = larger(left_depth, right_depth) + 1;
         rest = after;

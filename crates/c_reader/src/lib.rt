@@ -10,6 +10,8 @@ mod expressions;
 mod fault;
 mod look;
 mod programs;
+mod reader;
 mod scan;
 
 pub use fault::ReadFault;
+pub use reader::read;

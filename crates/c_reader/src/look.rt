@@ -34,13 +34,7 @@ pub fn skip(tokens: &[Token], kind: Kind) -> Option<&[Token]>
 {
     match tokens.split_first() {
         None => None,
-        Some((token, rest)) => {
-            if token.kind == kind {
-                Some(rest)
-            } else {
-                None
-            }
-        }
+        Some((token, rest)) => { if token.kind == kind { Some(rest) } else { None } }
     }
 }
 

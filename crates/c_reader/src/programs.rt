@@ -120,10 +120,7 @@ fn past(tokens: &[Token], kind: Kind) -> &[Token]
 }
 
 /// `main`, with the tokens after it.
-fn main_of(
-    alloc: Global,
-    tokens: &[Token],
-) -> Result<(Items<Stmt>, usize, &[Token]), Fault>
+fn main_of(alloc: Global, tokens: &[Token]) -> Result<(Items<Stmt>, usize, &[Token]), Fault>
     ensures answer { Gives (λ x. reading.got x.0 x.1 x.2.now) result (spec.main_of 99 tokens.now) }
 {
     let opens = head(tokens)?;

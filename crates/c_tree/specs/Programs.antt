@@ -56,6 +56,10 @@ IsWell (Some f) = stmt.AreWell f.body
 abbrev pub Spells : ℕ → Program → List Token → Type 0
 Spells d p ts = (f : Option MainForm) × IsWell f × (depth f ≤ d) × (items f ≡ p.items) × (tokens f ≡ ts)
 
+-- a longer text is no program
+abbrev pub longest : ℕ
+longest = 262144
+
 -- the text spells the program: it is not too long, and its tokens spell it within the depth of 100
 abbrev pub IsTextOf : Program → List ℕ → Type 0
-IsTextOf p text = (length text ≤ 262144) × (ts : List Token) × Scans text ts × Spells 100 p ts
+IsTextOf p text = (length text ≤ longest) × (ts : List Token) × Scans text ts × Spells 100 p ts

@@ -3,8 +3,8 @@ use Rattle.c_reader.specs.Reading as reading
 use Rattle.c_reader.proofs.Turns.{Going}
 use Rattle.c_reader.proofs.expressions.+expr.Given as goal
 
-abbrev pub decreases-below : goal.decreases-below
-decreases-below l = 3 * l.depth
+abbrev pub decreases-deeper : goal.decreases-deeper
+decreases-deeper l = 3 * l.depth
 
 abbrev pub decreases-expr : goal.decreases-expr
 decreases-expr l = 3 * l.depth + 2

@@ -1,4 +1,3 @@
-use Rattle.std.proofs.Common.{◌≡◌}
 use Rattle.std.proofs.lemmas.Result.{err_from_is_err_and}
 use Rattle.c_reader.specs.Reading.{got}
 use Rattle.c_reader.proofs.Blocks.{block_fails, block_goes_on, fails_along}

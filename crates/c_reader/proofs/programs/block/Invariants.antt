@@ -1,4 +1,4 @@
-use Rattle.std.proofs.Common.{◌≤◌, ◌+◌, length}
+use Rattle.std.proofs.Common.{length}
 use Rattle.c_reader.proofs.Blocks.{Going}
 use Rattle.c_reader.proofs.programs.block.Given as goal
 
