@@ -8,6 +8,8 @@
 
 mod evaluator;
 mod run;
+#[cfg(test)]
+mod tests;
 mod value;
 
 pub use run::{PlainRun, plain};
