@@ -1,5 +1,5 @@
 -- How the runs that go on from an evaluator change with it.
-use Rattle.std.proofs.Common.{◌≡◌, ℕ, suc, ◌+◌, ◌-◌, ◌<◌, ◌≤◌, List, [], ◌∷◌, ◌++◌, map, Option, Some, None, Result, Ok, Err, refl, sym, ap, ◌∙◌, subst, arith}
+use Rattle.std.proofs.Common.{◌≡◌, ℕ, suc, ◌+◌, List, [], ◌∷◌, ◌++◌, map, Result, Ok, Err, refl, sym, ap, ◌∙◌}
 use Rattle.std.specs.Borrow.{Bor}
 use Rattle.ckpt_base.specs.declared.trap.Trap.{Trap}
 use Rattle.ckpt_base.specs.Trap.{trap_number}
@@ -22,7 +22,7 @@ use Rattle.c_meaning.specs.declared.evaluator.Item.TheVariants as item
 use Rattle.c_meaning.specs.declared.evaluator.Task.{Task}
 use Rattle.c_meaning.specs.declared.evaluator.Task.TheVariants as task
 use Rattle.c_meaning.specs.Plain.{IsPlain}
-use Rattle.c_meaning.specs.Working.{todo, before, ways, does_task, state, From, Stands, Reached, Settled, Acted, Same, total, size, size_at, weight, weights, Lighter}
+use Rattle.c_meaning.specs.Working.{todo, before, ways, does_task, state, From, Stands, Same}
 
 -- ---- what moves a run from one evaluator to the next
 

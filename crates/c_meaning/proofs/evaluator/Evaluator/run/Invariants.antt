@@ -1,4 +1,4 @@
-use Rattle.std.proofs.Common.{◌≡◌, ◌≤◌, ◌-◌, ℕ}
+use Rattle.std.proofs.Common.{◌≤◌, ◌-◌}
 use Rattle.ckpt_base.specs.Run.{Run}
 use Rattle.c_meaning.specs.Working.{Stands}
 use Rattle.c_meaning.proofs.evaluator.Evaluator.run.Given as goal

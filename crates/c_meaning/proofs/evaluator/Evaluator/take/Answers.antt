@@ -1,4 +1,4 @@
-use Rattle.std.proofs.Common.{ap, subst}
+use Rattle.std.proofs.Common.{subst}
 use Rattle.c_meaning.specs.declared.evaluator.Item.{Item}
 use Rattle.c_meaning.specs.Working.{From, before}
 use Rattle.c_meaning.proofs.Going.{first_split}
