@@ -1,3 +1,4 @@
+mod Carrying
 mod Checks
 mod Choices
 mod FewNodes

@@ -1,7 +1,7 @@
 -- the words of a command line
 pub mod Words
--- the order that the code has read
-pub mod Ordered
+-- the command that the code has parsed
+pub mod Parsed
 -- the resolved tree of a program, and why one is refused
 pub mod Check
 -- what reading a whole file comes to

@@ -1,5 +1,5 @@
 -- When each outcome comes: by the words, what the shelf gives, the accepted text and the meaning.
-use Rattle.std.specs.Prelude.{◌≡◌, ◌<◌, ◌≤◌, ◌-◌, ◌^◌, ◌⊎◌, ℕ, List, length, Option, Some, None}
+use Rattle.std.specs.Prelude.{◌≡◌, ◌<◌, ◌≤◌, ◌-◌, ◌^◌, ◌⊎◌, ℕ, List, length, Some, None}
 use Rattle.ckpt_base.specs.Faults.{Rose}
 use Rattle.ckpt_base.specs.Shelf.{ShelfView}
 use Rattle.c_tree.specs.declared.tree.Program.{Program}
@@ -9,7 +9,7 @@ use Rattle.c_tree.specs.Nodes.{node_count}
 use Rattle.c_tree.specs.Checked.{IsChecked}
 use Rattle.c_tree.specs.Meaning.{meaning}
 use Rattle.c_meaning.specs.Plain.{IsPlain}
-use Rattle.ckpt_program.specs.Words.{Order, Plain, order_in}
+use Rattle.ckpt_program.specs.Words.{Command, Plain, Unknown, command_of}
 use Rattle.ckpt_program.specs.Check.{resolved}
 use Rattle.ckpt_program.specs.Fetched.{Lacks, IsWhole, IsTooLong}
 use Rattle.ckpt_program.specs.declared.outcome.Outcome.{Outcome}
@@ -87,12 +87,14 @@ ComesAccepted input tree old new _ = ⊥
 abbrev pub Evaluates : (source input : List ℕ) → ShelfView → ShelfView → Outcome → Type 0
 Evaluates source input old new o = FailsSource source old new o ⊎ ((tree : Resolved) × HasSource old source tree × ComesAccepted input tree old new o)
 
--- what an order comes to
-abbrev pub Carries : Order → ShelfView → ShelfView → Outcome → Type 0
+-- What a command comes to: usage exactly where there is none. Want of memory may come in place of anything.
+abbrev pub Carries : Command → ShelfView → ShelfView → Outcome → Type 0
+Carries command old new outcome.NoMemory = Unit {0}
+Carries Unknown old new outcome.Usage = Unit {0}
+Carries Unknown old new _ = ⊥
+Carries (Plain source input) old new outcome.Usage = ⊥
 Carries (Plain source input) old new o = Evaluates source input old new o
 
--- What the words come to: usage exactly where they are no order. Want of memory may come instead of anything.
+-- what the words come to
 abbrev pub Comes : List (List ℕ) → ShelfView → ShelfView → Outcome → Type 0
-Comes words old new outcome.Usage = order_in words ≡ None
-Comes words old new outcome.NoMemory = Unit {0}
-Comes words old new o = (order : Order) × (order_in words ≡ Some order) × Carries order old new o
+Comes words old new o = Carries (command_of words) old new o

@@ -22,7 +22,8 @@ fn words_of(rt: &HostRuntime) -> Result<Vec<Text>, NoMemory> {
     let mut words = Vec::new(rt.alloc());
     if let Ok(args) = env::args(rt) {
         for word in args.skip(1) {
-            words.push(Text::of(rt.alloc(), word.as_str())?)?;
+            let word = Text::of(rt.alloc(), word.as_str())?;
+            words.push(word).map_err(|_| NoMemory)?;
         }
     }
     Ok(words)

@@ -2,6 +2,7 @@ ghost use Rattle.std.specs.Prelude.{◌≡◌, ◌≤◌, ℕ, length, IfOk, IfE
 ghost use Rattle.ckpt_base.specs.Shelf.{ShelfView, SameShelf};
 ghost use Rattle.c_tree.specs.Checked.{IsChecked};
 ghost use Rattle.ckpt_program.specs.declared.outcome.Outcome.{Outcome};
+ghost use Rattle.ckpt_program.specs.declared.outcome.Outcome.TheVariants as outcome;
 ghost use Rattle.ckpt_program.specs.Check.{resolved, HasFewNodes};
 ghost use Rattle.ckpt_program.specs.Outcomes.{IsAccepted, FailsText, HasSource, FailsSource, ComesAccepted, Evaluates, Comes, FailsProgram};
 ghost use Rattle.ckpt_program.specs.Texts.{text_of};
@@ -11,7 +12,7 @@ use crate::check::{CheckFault, check};
 use crate::console::write_all;
 use crate::intake::{FetchFault, fetch};
 use crate::outcome::{Document, Outcome, Refusal};
-use crate::words::{Order, ordered};
+use crate::words::{Command, parse};
 use c_meaning::plain;
 use c_reader::{ReadFault, read};
 use c_tree::{Checked, Program};
@@ -24,10 +25,10 @@ const SOURCE_BYTES: usize = 262_144;
 /// The most bytes that an input may have.
 const INPUT_BYTES: usize = 16_777_216;
 
-/// Does all that the program does: carries out the order that the words give, over the files of the shelf, and tells the
-/// outcome on the console, which is written once, when the order is over. Answers the status with which the program ends.
+/// Does all that the program does: carries out the command that the words are, over the files of the shelf, and tells the
+/// outcome on the console, which is written once, when it is over. Answers the status with which the program ends.
 ///
-/// 0, 3 and 4 come by the ending of the run; 1 exactly where the words are no order; 2 exactly where the source is refused; 6
+/// 0, 3 and 4 come by the ending of the run; 1 exactly where the words are no command; 2 exactly where the source is refused; 6
 /// only where the shelf failed or lacks a file; 7 only where the console failed while the text of a run was written; 11 exactly
 /// where a file is longer than its limit; 12 where no memory is found.
 pub fn ckpt<H: Shelf, K: Sink>(
@@ -42,8 +43,15 @@ pub fn ckpt<H: Shelf, K: Sink>(
     let outcome = come_to(alloc, words, shelf);
     match outcome.text(alloc) {
         Ok(text) => tell(console, &outcome, &text),
-        Err(_) => tell(console, &Outcome::NoMemory, b"no memory\n"),
+        Err(_) => no_memory(console),
     }
+}
+
+/// Tells on the console that no memory was found, and answers the status for that.
+pub fn no_memory<K: Sink>(console: &mut K) -> u8
+    ensures answer { Tells outcome.NoMemory (K.view console.old) (K.view console.new) result }
+{
+    tell(console, &Outcome::NoMemory, b"no memory\n")
 }
 
 // What the words come to.
@@ -51,9 +59,9 @@ fn come_to<H: Shelf>(alloc: Global, words: &[Text], shelf: &mut H) -> Outcome
     ensures answer { Comes words.now (H.view shelf.old) (H.view shelf.new) result }
     ensures same { SameShelf (H.view shelf.old) (H.view shelf.new) }
 {
-    match ordered(words) {
-        None => Outcome::Usage,
-        Some(Order::Plain { source, input }) => evaluate(alloc, shelf, source, input),
+    match parse(words) {
+        Command::Plain { source, input } => evaluate(alloc, shelf, source, input),
+        Command::Unknown => Outcome::Usage,
     }
 }
 
@@ -91,8 +99,13 @@ fn accept_text(alloc: Global, text: &[u8]) -> Result<Checked, Outcome>
     match read(alloc, text) {
         Ok(program) => accept_program(alloc, program),
         Err(ReadFault::Syntax(line)) => Err(Outcome::Refused(Refusal::Syntax(line))),
-        Err(ReadFault::TooLong(_)) => Err(Outcome::TooLarge(Document::Source)),
         Err(ReadFault::Memory) => Err(Outcome::NoMemory),
+        Err(
+            ReadFault::TooLong(_)
+            | ReadFault::BadByte(_)
+            | ReadFault::BadNumber(_)
+            | ReadFault::UnendedComment,
+        ) => unreachable!(),
     }
 }
 

@@ -1,27 +1,27 @@
-ghost use Rattle.std.specs.Prelude.{◌≡◌, None, Some, MatchOption};
+ghost use Rattle.std.specs.Prelude.{◌≡◌};
 ghost use Rattle.ckpt_program.specs.Words as spec;
-ghost use Rattle.ckpt_program.specs.Ordered.{order_of};
+ghost use Rattle.ckpt_program.specs.Parsed.{parsed};
 
 use ckpt_base::Text;
 
 /// What the words of a command line ask for.
 #[derive(Clone, Copy)]
-pub enum Order<'a> {
+pub enum Command<'a> {
     /// `plain SRC INPUT`: evaluates the source on the input.
     Plain { source: &'a Text, input: &'a Text },
+    /// The words are no command.
+    Unknown,
 }
 
-/// The order that the words give, or `None` where they are no command.
-pub fn ordered(words: &[Text]) -> Option<Order<'_>>
-    ensures answer { MatchOption result (spec.order_in words.now ≡ None) (λ o. spec.order_in words.now ≡ Some (order_of o)) }
+/// The command that the words are.
+pub fn parse(words: &[Text]) -> Command<'_>
+    ensures answer { parsed result ≡ spec.command_of words.now }
 {
     match words {
         [name, source, input]
             if name.as_bytes() == b"plain".as_slice() && !is_option(source) && !is_option(input) =>
-        {
-            Some(Order::Plain { source, input })
-        }
-        _ => None,
+            { Command::Plain { source, input } }
+        _ => Command::Unknown,
     }
 }
 
