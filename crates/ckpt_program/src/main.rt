@@ -9,6 +9,8 @@ mod console;
 mod host;
 mod intake;
 mod outcome;
+#[cfg(test)]
+mod tests;
 mod top;
 mod words;
 
