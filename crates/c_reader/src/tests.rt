@@ -166,7 +166,7 @@ fn a_depth_of_a_hundred_is_read(rt: HostRuntime) -> Result<(), Fail> {
 #[test]
 fn a_text_of_262145_bytes_is_too_long(rt: HostRuntime) -> Result<(), Fail> {
     let mut text = String::from_str(rt.alloc(), "int main(void){ return 6; }")?;
-    while text.len() < 262_144 {
+    for _ in text.len()..262_144 {
         text.push(' ')?;
     }
     assert!(rt; is_main(rt.alloc(), &text, &[('r', 1, 6)]));
