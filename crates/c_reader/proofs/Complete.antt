@@ -9,7 +9,7 @@ use Rattle.c_tree.specs.declared.tree.Expr.{Expr}
 use Rattle.c_tree.specs.Scan.{at}
 use Rattle.c_tree.specs.Expressions.{Form, Num, Brackets, Both, binds, mark, level, IsWell, tree, tokens, depth}
 use Rattle.c_reader.specs.Reading.{Got, got, Read, ◌>>=◌, Inner, closed, first, operator, joined, turn, more, whole, below, expr}
-use Rattle.c_reader.proofs.Tests.{lt_true, lt_false}
+use Rattle.c_reader.proofs.TokenKinds.{lt_true, lt_false}
 
 -- the next token binds looser than this
 abbrev pub StopsAt : ℕ → Option Binary → Type 0

@@ -1,7 +1,7 @@
 pub mod Runs
 pub mod Numbers
 pub mod Scans
-pub mod Tests
+pub mod TokenKinds
 pub mod Turns
 pub mod Complete
 pub mod Sound

@@ -11,7 +11,7 @@ use Rattle.c_tree.specs.declared.tree.Expr.TheVariants as expr'
 use Rattle.c_tree.specs.Scan.{at}
 use Rattle.c_tree.specs.Expressions.{Form, Num, Brackets, Both, binds, mark, level, IsWell, tree, tokens, depth}
 use Rattle.c_reader.specs.Reading.{Got, got, Read, ◌>>=◌, Inner, after, closed, first, first_of, operator, operator_of, tail, joined, turn, more, whole, below, expr}
-use Rattle.c_reader.proofs.Tests.{lt_is, not_lt_is, after_is}
+use Rattle.c_reader.proofs.TokenKinds.{lt_is, not_lt_is, after_is}
 use Rattle.c_reader.proofs.Complete.{Stops, StopsAt, below_primary, stops_at}
 
 -- a spelling of what was read, at its level

@@ -12,7 +12,7 @@ use Rattle.c_tree.specs.Expressions as expr'
 use Rattle.c_tree.specs.Statements.{StmtForm, Empty, Put, Return, tokens, tree, depth, IsWell}
 use Rattle.c_reader.specs.Reading.{Got, got, ◌>>=◌, after, expr}
 use Rattle.c_reader.specs.ReadingPrograms.{unbracketed, bracketed, ended, statement_of, statement}
-use Rattle.c_reader.proofs.Tests.{after_is}
+use Rattle.c_reader.proofs.TokenKinds.{after_is}
 use Rattle.c_reader.proofs.Complete.{spelled_read}
 use Rattle.c_reader.proofs.Sound.{bind_some, read_spelt}
 

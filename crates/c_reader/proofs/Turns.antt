@@ -5,7 +5,7 @@ use Rattle.c_tree.specs.declared.tree.Binary.{Binary}
 use Rattle.c_tree.specs.declared.tree.Expr.{Expr}
 use Rattle.c_tree.specs.Expressions.{binds}
 use Rattle.c_reader.specs.Reading.{Got, Read, Inner, ◌>>=◌, first, operator, tail, joined, turn, more, below, expr}
-use Rattle.c_reader.proofs.Tests.{lt_true, lt_false}
+use Rattle.c_reader.proofs.TokenKinds.{lt_true, lt_false}
 
 -- to go on from here gives what the whole gives, in turns enough
 pub record Going (d least : ℕ) (ts : List Token) (x : Got Expr) : Type 0 where

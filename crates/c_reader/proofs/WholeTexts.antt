@@ -12,7 +12,7 @@ use Rattle.c_tree.specs.Statements.{StmtForm, Empty, Put, Return, StmtForms, End
 use Rattle.c_tree.specs.Programs.{Head, MainForm, tokens_void, tokens_head, tokens_main, Spells}
 use Rattle.c_reader.specs.Reading.{Got, got, Read, ◌>>=◌, after}
 use Rattle.c_reader.specs.ReadingPrograms.{statement, block_turn, block, past, head, main_of, alone, program}
-use Rattle.c_reader.proofs.Tests.{after_is}
+use Rattle.c_reader.proofs.TokenKinds.{after_is}
 use Rattle.c_reader.proofs.Sound.{bind_some}
 use Rattle.c_reader.proofs.Statements.{SpeltStmt, reads_stmt, stmt_sound, some_tokens}
 

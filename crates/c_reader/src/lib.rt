@@ -15,3 +15,6 @@ mod scan;
 
 pub use fault::ReadFault;
 pub use reader::read;
+
+#[cfg(test)]
+mod tests;

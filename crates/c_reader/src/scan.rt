@@ -129,6 +129,57 @@ fn mark(b: u8) -> Option<Kind>
     }
 }
 
+/// The byte that stands for itself in a character constant.
+fn plain(b: u8) -> Option<u8>
+    ensures answer { result ≡ spec.plain b }
+{
+    if b >= 32 && b <= 126 && b != b'\'' {
+        Some(b)
+    } else {
+        None
+    }
+}
+
+/// The byte that a backslash and this byte stand for.
+fn escaped(b: u8) -> Option<u8>
+    ensures answer { result ≡ spec.escaped b }
+{
+    match b {
+        b'n' => Some(b'\n'),
+        b't' => Some(b'\t'),
+        b'\\' => Some(b'\\'),
+        b'\'' => Some(b'\''),
+        b'0' => Some(0),
+        _ => None,
+    }
+}
+
+/// The end of a character constant that has `n` bytes so far.
+fn closed(value: Option<u8>, n: usize, bytes: &[u8]) -> Piece
+    requires { (0 < n) × (n < 10) }
+    ensures answer { result ≡ spec.closed value n bytes.now }
+    ensures takes { Takes result (n + length bytes.now) }
+{
+    match (value, bytes) {
+        (None, _) => Piece::BadByte(n - 1),
+        (Some(value), [b'\'', ..]) => Piece::Is(Kind::Num(u64::from(value)), n + 1),
+        (Some(_), _) => Piece::BadByte(n),
+    }
+}
+
+/// A character constant, of which these bytes follow the opening quote.
+fn character(bytes: &[u8]) -> Piece
+    ensures answer { result ≡ spec.character bytes.now }
+    ensures takes { Takes result (length bytes.now + 1) }
+{
+    match bytes {
+        [] => Piece::BadByte(1),
+        [b'\\'] => Piece::BadByte(2),
+        [b'\\', b, rest @ ..] => closed(escaped(*b), 3, rest),
+        [b, rest @ ..] => closed(plain(*b), 2, rest),
+    }
+}
+
 /// What stands at the front.
 #[tactic(auto, using(crate::proofs::Runs::run_some, crate::proofs::Runs::digit_word), unfolding(c_tree::specs::Scan::piece))]
 fn piece(bytes: &[u8]) -> Piece
@@ -138,6 +189,7 @@ fn piece(bytes: &[u8]) -> Piece
     match bytes {
         [] => Piece::BadByte(0),
         [b'\n', ..] => Piece::Blank(1, 1),
+        [b'\'', rest @ ..] => character(rest),
         [b, ..] => {
             if is_blank(*b) {
                 Piece::Blank(1, 0)

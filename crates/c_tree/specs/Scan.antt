@@ -47,6 +47,37 @@ greatest = 2 ^ 63 - 1
 abbrev pub number : List ℕ → Option ℕ
 number bs = if are_digits bs && not (leading_zero bs) && nat_le (decimal 0 bs) greatest then Some (decimal 0 bs) else None
 
+-- ---- character constants
+
+-- a byte that stands for itself
+abbrev pub plain : ℕ → Option ℕ
+plain b = if nat_le 32 b && nat_le b 126 && not (b == 39) then Some b else None
+
+-- the byte that a backslash and this byte stand for
+abbrev pub escaped : ℕ → Option ℕ
+escaped b =
+    if b == 110 then Some 10
+    else (if b == 116 then Some 9
+    else (if b == 92 then Some 92
+    else (if b == 39 then Some 39
+    else (if b == 48 then Some 0
+    else None))))
+
+-- the value so far, how many bytes it and the opening quote have, and what follows: the closing quote
+abbrev pub closed : Option ℕ → ℕ → List ℕ → Piece
+closed None n bs = piece'.BadByte (n - 1)
+closed (Some v) n [] = piece'.BadByte n
+closed (Some v) n (b ∷ bs) = if b == 39 then piece'.Is (kind.Num v) (n + 1) else piece'.BadByte n
+
+abbrev pub after_backslash : List ℕ → Piece
+after_backslash [] = piece'.BadByte 2
+after_backslash (b ∷ bs) = closed (escaped b) 3 bs
+
+-- a character constant is a number; this is what follows its opening quote
+abbrev pub character : List ℕ → Piece
+character [] = piece'.BadByte 1
+character (b ∷ bs) = if b == 92 then after_backslash bs else closed (plain b) 2 bs
+
 -- ---- what stands at the front
 
 abbrev pub keyword : List ℕ → Kind
@@ -88,9 +119,10 @@ piece [] = piece'.BadByte 0
 piece (b ∷ bs) =
     if b == 10 then piece'.Blank 1 1
     else (if is_blank b then piece'.Blank 1 0
+    else (if b == 39 then character bs
     else (if is_digit b then numbered (number (unsuffixed (run (b ∷ bs)))) (length (run (b ∷ bs)))
     else (if is_word b then piece'.Is (keyword (run (b ∷ bs))) (length (run (b ∷ bs)))
-    else marked (mark b))))
+    else marked (mark b)))))
 
 -- ---- the whole text
 

@@ -1,4 +1,4 @@
--- Tests of numbers and of tokens.
+-- Kinds of tokens, and tests of numbers.
 use Rattle.std.proofs.Common.{◌≡◌, ℕ, ◌<◌, ◌≤◌, List, [], ◌∷◌, Some, refl, ap, ◌∙◌, arith, true, false, Bool}
 use Rattle.std.specs.Prelude.{nat_lt, ◌==◌}
 use Rattle.std.proofs.lemmas.Grind.{common_steps}
