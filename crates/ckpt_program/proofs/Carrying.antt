@@ -1,5 +1,5 @@
 -- What a command comes to, from the outcomes of its parts.
-use Rattle.std.proofs.Common.{◌≡◌, ◌∙◌, sym, ap, subst, ◌⊎◌, ⊎_elim, inl, inr, ℕ, List, IsTrue}
+use Rattle.std.proofs.Common.{◌≡◌, ◌∙◌, sym, ap, subst, ⊎_elim, inl, inr, ℕ, List, IsTrue}
 use Rattle.ckpt_base.specs.Faults.{Rose}
 use Rattle.ckpt_base.specs.Shelf.{ShelfView, SameShelf, File, file_named}
 use Rattle.c_tree.specs.declared.resolved.Resolved.{Resolved}
@@ -8,7 +8,7 @@ use Rattle.ckpt_program.specs.declared.outcome.Outcome.TheVariants as outcome
 use Rattle.ckpt_program.specs.declared.outcome.Document.TheVariants as document
 use Rattle.ckpt_program.specs.Words.{Command, Plain, command_of}
 use Rattle.ckpt_program.specs.Fetched.{Gives, Lacks, IsTooLong}
-use Rattle.ckpt_program.specs.Outcomes.{HasSource, FailsSource, ComesAccepted, Evaluates, Carries, Comes}
+use Rattle.ckpt_program.specs.Outcomes.{HasSource, ComesAccepted, Evaluates, Carries, Comes}
 
 -- ---- a shelf with the same files gives the same
 

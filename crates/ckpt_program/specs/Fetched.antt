@@ -1,5 +1,5 @@
 -- What reading a whole file from a shelf comes to.
-use Rattle.std.specs.Prelude.{◌≡◌, ◌<◌, ◌≤◌, ◌⊎◌, ℕ, IsTrue, List, length, Option, Some, None}
+use Rattle.std.specs.Prelude.{◌≡◌, ◌<◌, ◌≤◌, ◌⊎◌, ℕ, IsTrue, List, length, Some, None}
 use Rattle.ckpt_base.specs.Faults.{Rose}
 use Rattle.ckpt_base.specs.Shelf.{ShelfView, file_named}
 use Rattle.ckpt_program.specs.declared.intake.FetchFault.{FetchFault}

@@ -1,5 +1,5 @@
 -- When each outcome comes: by the words, what the shelf gives, the accepted text and the meaning.
-use Rattle.std.specs.Prelude.{◌≡◌, ◌<◌, ◌≤◌, ◌-◌, ◌^◌, ◌⊎◌, ℕ, List, length, Some, None}
+use Rattle.std.specs.Prelude.{◌≡◌, ◌<◌, ◌-◌, ◌^◌, ◌⊎◌, ℕ, List, Some, None}
 use Rattle.ckpt_base.specs.Faults.{Rose}
 use Rattle.ckpt_base.specs.Shelf.{ShelfView}
 use Rattle.c_tree.specs.declared.tree.Program.{Program}

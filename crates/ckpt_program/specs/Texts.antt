@@ -3,7 +3,6 @@ use Rattle.std.specs.Prelude.{ℕ, List, [], ◌∷◌, ◌++◌, codes}
 use Rattle.std.specs.Fmt.{decimal, signed_decimal}
 use Rattle.ckpt_base.specs.declared.ending.Ending.{Ending}
 use Rattle.ckpt_base.specs.declared.ending.Ending.TheVariants.{Ended, Trapped, Going}
-use Rattle.c_meaning.specs.declared.run.PlainRun.{PlainRun}
 use Rattle.ckpt_program.specs.declared.outcome.Outcome.{Outcome}
 use Rattle.ckpt_program.specs.declared.outcome.Outcome.TheVariants as outcome
 use Rattle.ckpt_program.specs.declared.outcome.Document.{Document}

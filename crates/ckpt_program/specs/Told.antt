@@ -1,5 +1,5 @@
 -- What the console takes, and the status with which the program ends.
-use Rattle.std.specs.Prelude.{◌≡◌, ◌≤◌, ◌++◌, ◌⊎◌, ℕ, List, IsTrue, take}
+use Rattle.std.specs.Prelude.{◌≡◌, ◌≤◌, ◌++◌, ◌⊎◌, ℕ, IsTrue, take}
 use Rattle.ckpt_base.specs.Faults.{Rose}
 use Rattle.ckpt_base.specs.Sink.{SinkView}
 use Rattle.ckpt_program.specs.declared.outcome.Outcome.{Outcome}

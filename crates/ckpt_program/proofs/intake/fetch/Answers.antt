@@ -1,4 +1,4 @@
-use Rattle.std.proofs.Common.{◌≡◌, ◌≤◌, ◌∙◌, sym, subst, arith, IsTrue, length, ◌+◌}
+use Rattle.std.proofs.Common.{◌≤◌, ◌∙◌, sym, subst, arith, IsTrue, length, ◌+◌}
 use Rattle.ckpt_program.proofs.Choices.{on_true, on_false}
 use Rattle.ckpt_program.proofs.intake.fetch.Goals as goal
 
