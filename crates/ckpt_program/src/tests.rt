@@ -57,23 +57,133 @@ fn check(rt: &impl Abort, alloc: Global, case: &Case<'_>) -> Result<(), Fail> {
     Ok(())
 }
 
+const NO_LINE: &[u8] = b"refused: syntax in line 1\n";
+
 #[test]
-fn plain_answers_as_the_table_says(rt: HostRuntime) -> Result<(), Fail> {
-    let products = b"int main(void){ putchar(8*9); return 2+3*4; }".as_slice();
-    let spin = b"int main(void){ while(1) ; }".as_slice();
+fn plain_evaluates_what_it_reads(rt: HostRuntime) -> Result<(), Fail> {
+    let table = [
+        (HI, b"Hi\nend 0 steps 3\n".as_slice()),
+        (
+            b"int main(void){ putchar(8*9); return 2+3*4; }",
+            b"H\nend 14 steps 2\n",
+        ),
+        (b"int main(void){ }", b"\nend 0 steps 0\n"),
+        (b"int main(){ return 5; }", b"\nend 5 steps 1\n"),
+        (
+            b"int main(void){ ;;; putchar(65); ; }",
+            b"A\nend 0 steps 1\n",
+        ),
+        (
+            b"int main(void){ putchar(65); return 3; putchar(66); return 4; }",
+            b"A\nend 3 steps 2\n",
+        ),
+        (
+            b"int\tmain\r\n(\nvoid ) {\r\treturn\n7 ;\n}\n",
+            b"\nend 7 steps 1\n",
+        ),
+        (
+            b"int main(void){ return 2*3+4*5-(6-7)*8; }",
+            b"\nend 34 steps 1\n",
+        ),
+        (b"int main(void){ return 10-4-3; }", b"\nend 3 steps 1\n"),
+        (
+            b"int main(void){ return 9223372036854775807+1; }",
+            b"\nend -9223372036854775808 steps 1\n",
+        ),
+        (
+            b"int main(void){ return 4294967296*4294967296+3; }",
+            b"\nend 3 steps 1\n",
+        ),
+        (
+            b"int main(void){ putchar(256+65); putchar(0-1); putchar(0); return 0; }",
+            b"A\xff\x00\nend 0 steps 4\n",
+        ),
+    ];
+    let alloc = rt.alloc();
+    for (source, text) in table {
+        check(&rt, alloc, &row_of(&PLAIN, source, 0, text))?;
+    }
+    Ok(())
+}
+
+#[test]
+fn plain_refuses_what_it_does_not_read(rt: HostRuntime) -> Result<(), Fail> {
+    let table = [
+        (b"".as_slice(), b"refused: no main\n".as_slice()),
+        (b"int main(void){ while(1) ; }", NO_LINE),
+        (b"int main(void){ return 1;", NO_LINE),
+        (b"int main(void){ } int main(void){ }", NO_LINE),
+        (b"/* a */ int main(void){ return 0; }", NO_LINE),
+        (b"int main(void){ return 1 @ 2; }", NO_LINE),
+        (b"int main(void){ return 9223372036854775808; }", NO_LINE),
+        (b"int main(void){ return -1; }", NO_LINE),
+        (
+            b"int main(void){\nreturn 1\n}",
+            b"refused: syntax in line 3\n",
+        ),
+    ];
+    let alloc = rt.alloc();
+    for (source, text) in table {
+        check(&rt, alloc, &row_of(&PLAIN, source, 2, text))?;
+    }
+    Ok(())
+}
+
+/// A text with a part of it so many times in its middle.
+fn around(
+    alloc: Global,
+    before: &[u8],
+    part: &[u8],
+    count: u32,
+    after: &[u8],
+) -> Result<Vec<u8>, Fail> {
+    let mut text = Vec::from_slice(alloc, before)?;
+    for _ in 0..count {
+        text.extend_from_slice(part)?;
+    }
+    text.extend_from_slice(after)?;
+    Ok(text)
+}
+
+#[test]
+fn brackets_and_nodes_have_limits(rt: HostRuntime) -> Result<(), Fail> {
+    let alloc = rt.alloc();
+    let inner = around(alloc, b"int main(void){ return ", b"(", 99, b"1")?;
+    let deep = around(alloc, &inner, b")", 99, b"; }")?;
+    check(&rt, alloc, &row_of(&PLAIN, &deep, 0, b"\nend 1 steps 1\n"))?;
+    let inner = around(alloc, b"int main(void){ return ", b"(", 100, b"1")?;
+    let deeper = around(alloc, &inner, b")", 100, b"; }")?;
+    check(&rt, alloc, &row_of(&PLAIN, &deeper, 2, NO_LINE))?;
+    let most = around(alloc, b"int main(void){ ", b"putchar(65);", 2048, b" }")?;
+    let output = around(alloc, b"", b"A", 2048, b"\nend 0 steps 2048\n")?;
+    check(&rt, alloc, &row_of(&PLAIN, &most, 0, &output))?;
+    let more = around(alloc, b"int main(void){ ", b"putchar(65);", 2049, b" }")?;
+    check(
+        &rt,
+        alloc,
+        &row_of(&PLAIN, &more, 2, b"refused: 2049 nodes\n"),
+    )
+}
+
+#[test]
+fn words_files_and_the_console_are_told_apart(rt: HostRuntime) -> Result<(), Fail> {
     let usage =
         b"usage: ckpt plain|check|compile|report|run|restart|images|coalesce|clear|drill|generate\n".as_slice();
     let table = [
-        row_of(&PLAIN, HI, 0, b"Hi\nend 0 steps 3\n"),
-        row_of(&PLAIN, products, 0, b"H\nend 14 steps 2\n"),
-        row_of(&PLAIN, b"", 2, b"refused: no main\n"),
-        row_of(&PLAIN, spin, 2, b"refused: syntax in line 1\n"),
-        row_of(&PLAIN, b"int main() { }", 0, b"\nend 0 steps 0\n"),
         row_of(&[], HI, 1, usage),
+        row_of(&[""], HI, 1, usage),
+        row_of(&["check", "source"], HI, 1, usage),
         row_of(&["plain", "source"], HI, 1, usage),
+        row_of(&["plain", "source", "input", "more"], HI, 1, usage),
         row_of(&["plain", "source", "--input"], HI, 1, usage),
         row_of(&["plain", "nothing", "input"], HI, 6, b"shelf fault\n"),
         row_of(&["plain", "source", "nothing"], HI, 6, b"shelf fault\n"),
+        row_of(
+            &["plain", "source", "nothing"],
+            b"",
+            2,
+            b"refused: no main\n",
+        ),
         Case {
             console_fails: 1,
             ..row_of(&PLAIN, HI, 7, b"")
