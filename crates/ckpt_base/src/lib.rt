@@ -4,9 +4,20 @@
 mod bytes;
 mod ending;
 mod errors;
+mod faults;
+mod shelf;
+mod sink;
+#[cfg(test)]
+mod tests;
 mod text;
+mod trap;
+pub mod word;
 
 pub use bytes::Bytes;
 pub use ending::Ending;
 pub use errors::{Failed, NoMemory};
+pub use faults::{count_on, fails_at};
+pub use shelf::{MemShelf, Shelf};
+pub use sink::{MemSink, Sink};
 pub use text::Text;
+pub use trap::Trap;

@@ -1,0 +1,4 @@
+-- what `plain` shows of a run
+pub mod Plain
+-- what the evaluator has left to do, and which runs go on from it
+pub mod Working

@@ -1,0 +1,39 @@
+ghost use Rattle.std.specs.Prelude.{◌≡◌, IfOk};
+ghost use Rattle.c_tree.specs.Meaning.{meaning};
+ghost use Rattle.c_meaning.specs.Plain.{IsPlain};
+
+use crate::evaluator::Evaluator;
+use c_tree::Checked;
+use ckpt_base::{Bytes, Ending, NoMemory};
+use std::alloc::Global;
+
+/// What a run shows.
+#[derive(Drop)]
+pub struct PlainRun {
+    /// The bytes that were written.
+    pub output: Bytes,
+    /// How the run stands at the bound.
+    pub ending: Ending,
+    /// How many ticks were taken.
+    pub ticks: u64,
+}
+
+/// Runs a program on an input, with at most `until` ticks. The one refusal is that no memory is found.
+pub fn plain(
+    alloc: Global,
+    program: &Checked,
+    input: &[u8],
+    until: u64,
+) -> Result<PlainRun, NoMemory>
+    ensures answer { IfOk result (λ r. IsPlain r.output.list r.ending r.ticks (meaning program.now input.now until)) }
+{
+    let mut evaluator = Evaluator::start(alloc, &program.tree().main.body, input)?;
+    let ending = evaluator.run(until)?;
+    let mut output = Bytes::with_room(alloc, evaluator.output().len())?;
+    output.append(evaluator.output());
+    Ok(PlainRun {
+        output,
+        ending,
+        ticks: evaluator.ticks(),
+    })
+}

@@ -1,0 +1,19 @@
+use Rattle.std.proofs.Common.{◌≤◌, ◌+◌, ◌*◌, ◌-◌}
+use Rattle.c_reader.specs.Reading as reading
+use Rattle.c_reader.proofs.Turns.{Going}
+use Rattle.c_reader.proofs.expressions.+expr.Given as goal
+
+abbrev pub decreases-deeper : goal.decreases-deeper
+decreases-deeper l = 3 * l.depth
+
+abbrev pub decreases-expr : goal.decreases-expr
+decreases-expr l = 3 * l.depth + 2
+
+abbrev pub decreases-first : goal.decreases-first
+decreases-first l = 3 * l.depth + 1
+
+abbrev pub invariant-expr-loop-op : goal.invariant-expr-loop-op
+invariant-expr-loop-op l = (l.left_depth ≤ l.depth) × Going l.depth l.least l.fn.tokens (reading.got l.left l.left_depth l.rest)
+
+abbrev pub decreases-expr-loop-op : goal.decreases-expr-loop-op
+decreases-expr-loop-op l = l.depth - l.left_depth

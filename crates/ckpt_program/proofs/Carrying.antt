@@ -1,0 +1,52 @@
+-- What a command comes to, from the outcomes of its parts.
+use Rattle.std.proofs.Common.{◌≡◌, ◌∙◌, sym, ap, subst, ⊎_elim, inl, inr, ℕ, List, IsTrue}
+use Rattle.ckpt_base.specs.Faults.{Rose}
+use Rattle.ckpt_base.specs.Shelf.{ShelfView, SameShelf, File, file_named}
+use Rattle.c_tree.specs.declared.resolved.Resolved.{Resolved}
+use Rattle.ckpt_program.specs.declared.outcome.Outcome.{Outcome}
+use Rattle.ckpt_program.specs.declared.outcome.Outcome.TheVariants as outcome
+use Rattle.ckpt_program.specs.declared.outcome.Document.TheVariants as document
+use Rattle.ckpt_program.specs.Words.{Command, Plain, command_of}
+use Rattle.ckpt_program.specs.Fetched.{Gives, Lacks, IsTooLong}
+use Rattle.ckpt_program.specs.Outcomes.{HasSource, ComesAccepted, Evaluates, Carries, Comes}
+
+-- ---- a shelf with the same files gives the same
+
+pub gives_same : (a b : ShelfView) (name bytes : List ℕ) → SameShelf a b → Gives b name bytes → Gives a name bytes
+gives_same a b name bytes same gives = λ tells. ap (λ (fs : List File). file_named fs name) (sym same.files) ∙ gives (subst IsTrue (sym same.tells) tells)
+
+pub lacks_same : (a b : ShelfView) (name : List ℕ) → SameShelf a b → Lacks b name → Lacks a name
+lacks_same a b name same lacks = (subst IsTrue same.tells lacks.0, ap (λ (fs : List File). file_named fs name) (sym same.files) ∙ lacks.1)
+
+pub too_long_same : (a b : ShelfView) (name : List ℕ) (limit : ℕ) → SameShelf a b → IsTooLong b name limit → IsTooLong a name limit
+too_long_same a b name limit same long = λ tells.
+    let found = long (subst IsTrue (sym same.tells) tells) in
+    (found.0, ap (λ (fs : List File). file_named fs name) (sym same.files) ∙ found.1, found.2)
+
+-- what comes after the source was accepted, seen from the shelf before it was read
+pub accepted_before : (input : List ℕ) (tree : Resolved) (a b c : ShelfView) (o : Outcome) → SameShelf a b → b.faults ≡ a.faults → ComesAccepted input tree b c o → ComesAccepted input tree a c o
+accepted_before input tree a b c outcome.ShelfFault same count comes = ⊎_elim (λ rose. inl (subst (λ (n : ℕ). Rose n c.faults) count rose)) (λ lacks. inr (lacks_same a b input same lacks)) comes
+accepted_before input tree a b c (outcome.TooLarge document.Input) same count comes = (too_long_same a b input _ same comes.0, comes.1 ∙ count)
+accepted_before input tree a b c (outcome.TooLarge document.Source) same count comes = comes
+accepted_before input tree a b c outcome.NoMemory same count comes = tt
+accepted_before input tree a b c (outcome.Finished r) same count comes =
+    let whole = comes.0.1 in
+    ((comes.0.0, (gives_same a b input _ same whole.0, whole.1), comes.0.2), comes.1 ∙ count)
+accepted_before input tree a b c outcome.Usage same count comes = comes
+accepted_before input tree a b c (outcome.Refused r) same count comes = comes
+
+pub evaluated : (source input : List ℕ) (tree : Resolved) (a b c : ShelfView) (o : Outcome) → HasSource a source tree → SameShelf a b → b.faults ≡ a.faults → ComesAccepted input tree b c o → Evaluates source input a c o
+evaluated source input tree a b c o has same count comes = inr (tree, has, accepted_before input tree a b c o same count comes)
+
+-- ---- a command
+
+pub plain_comes : (words : List (List ℕ)) (source input : List ℕ) (old new : ShelfView) (o : Outcome) → Plain source input ≡ command_of words → Evaluates source input old new o → Comes words old new o
+plain_comes words source input old new o is comes = subst (λ (command : Command). Carries command old new o) is (carried source input old new o comes)
+  where
+    carried : (source input : List ℕ) (old new : ShelfView) (o : Outcome) → Evaluates source input old new o → Carries (Plain source input) old new o
+    carried source input old new outcome.Usage comes = ⊎_elim (λ fails. absurd fails) (λ accepted. absurd accepted.2) comes
+    carried source input old new outcome.NoMemory comes = tt
+    carried source input old new (outcome.Refused r) comes = comes
+    carried source input old new outcome.ShelfFault comes = comes
+    carried source input old new (outcome.TooLarge d) comes = comes
+    carried source input old new (outcome.Finished r) comes = comes

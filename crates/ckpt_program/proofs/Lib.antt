@@ -1,0 +1,5 @@
+mod Carrying
+mod Checks
+mod Choices
+mod FewNodes
+mod Prefix

@@ -1,0 +1,8 @@
+-- The command that the code has parsed.
+use Rattle.ckpt_program.specs.declared.words.Command.{Command}
+use Rattle.ckpt_program.specs.declared.words.Command.TheVariants as command
+use Rattle.ckpt_program.specs.Words as spec
+
+abbrev pub parsed : Command → spec.Command
+parsed (command.Plain s i) = spec.Plain s.now i.now
+parsed command.Unknown = spec.Unknown

@@ -1,0 +1,64 @@
+-- What a command answers: its status and its text.
+use Rattle.std.specs.Prelude.{ℕ, List, [], ◌∷◌, ◌++◌, codes}
+use Rattle.std.specs.Fmt.{decimal, signed_decimal}
+use Rattle.ckpt_base.specs.declared.ending.Ending.{Ending}
+use Rattle.ckpt_base.specs.declared.ending.Ending.TheVariants.{Ended, Trapped, Going}
+use Rattle.ckpt_program.specs.declared.outcome.Outcome.{Outcome}
+use Rattle.ckpt_program.specs.declared.outcome.Outcome.TheVariants as outcome
+use Rattle.ckpt_program.specs.declared.outcome.Document.{Document}
+use Rattle.ckpt_program.specs.declared.outcome.Document.TheVariants as document
+use Rattle.ckpt_program.specs.declared.outcome.Refusal.{Refusal}
+use Rattle.ckpt_program.specs.declared.outcome.Refusal.TheVariants as refusal
+
+-- the line that tells how a run ended and how many steps it took, without its newline
+abbrev pub ending_line : Ending → ℕ → List ℕ
+ending_line (Ended v) n = codes "end " ++ (signed_decimal v ++ (codes " steps " ++ decimal n))
+ending_line (Trapped t) n = codes "trap " ++ (decimal t ++ (codes " steps " ++ decimal n))
+ending_line Going n = codes "stopped steps " ++ decimal n
+
+-- why a source is refused
+abbrev pub refusal_line : Refusal → List ℕ
+refusal_line (refusal.Syntax line) = codes "refused: syntax in line " ++ decimal line
+refusal_line refusal.NoMain = codes "refused: no main"
+refusal_line (refusal.TooManyNodes n) = codes "refused: " ++ decimal n ++ codes " nodes"
+
+abbrev pub too_large_line : Document → List ℕ
+too_large_line document.Source = codes "too large: source"
+too_large_line document.Input = codes "too large: input"
+
+-- the last line of a text, without its newline
+abbrev pub last_line : Outcome → List ℕ
+last_line outcome.Usage = codes "usage: ckpt plain|check|compile|report|run|restart|images|coalesce|clear|drill|generate"
+last_line (outcome.Refused r) = refusal_line r
+last_line outcome.ShelfFault = codes "shelf fault"
+last_line (outcome.TooLarge d) = too_large_line d
+last_line outcome.NoMemory = codes "no memory"
+last_line (outcome.Finished r) = ending_line r.ending r.ticks
+
+-- what stands before the last line: the output of a run, and a newline
+abbrev pub before_line : Outcome → List ℕ
+before_line (outcome.Finished r) = r.output.list ++ 10 ∷ []
+before_line _ = []
+
+-- the whole text
+abbrev pub text_of : Outcome → List ℕ
+text_of o = before_line o ++ last_line o ++ 10 ∷ []
+
+-- 0 where a run ended, 3 where it trapped, 4 where it stopped at its bound
+abbrev pub ending_status : Ending → ℕ
+ending_status (Ended v) = 0
+ending_status (Trapped t) = 3
+ending_status Going = 4
+
+abbrev pub status_of : Outcome → ℕ
+status_of (outcome.Finished r) = ending_status r.ending
+status_of outcome.Usage = 1
+status_of (outcome.Refused r) = 2
+status_of outcome.ShelfFault = 6
+status_of (outcome.TooLarge d) = 11
+status_of outcome.NoMemory = 12
+
+-- the status where the console did not take the whole text: 7 for that of a run, and else as it is
+abbrev pub broken_status : Outcome → ℕ
+broken_status (outcome.Finished r) = 7
+broken_status o = status_of o
