@@ -63,7 +63,21 @@ impl PageFlags {
         self.insert(PageFlags::PROTECTED);
     }
 
-    /// Marks a dirty page as part of the snapshot, and protects it.
+    /// Makes the page part of the snapshot where it is dirty.
+    fn mark(&mut self)
+        requires page { IsPage self.old }
+        requires marked { is_marked self.old ≡ false }
+        ensures page { IsPage self.new }
+        ensures dirty { is_dirty self.new ≡ is_dirty self.old }
+        ensures marked { is_marked self.new ≡ is_dirty self.old }
+    {
+        if !self.contains(PageFlags::DIRTY) {
+            return;
+        }
+        self.insert(PageFlags::IN_SNAPSHOT);
+    }
+
+    /// Makes the page part of the snapshot where it is dirty, and protects it.
     pub(crate) fn save(&mut self)
         requires page { IsPage self.old }
         requires marked { is_marked self.old ≡ false }
@@ -71,9 +85,7 @@ impl PageFlags {
         ensures dirty { is_dirty self.new ≡ false }
         ensures marked { is_marked self.new ≡ is_dirty self.old }
     {
-        if self.contains(PageFlags::DIRTY) {
-            self.insert(PageFlags::IN_SNAPSHOT);
-        }
+        self.mark();
         self.protect();
     }
 

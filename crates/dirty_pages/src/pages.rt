@@ -1,7 +1,8 @@
 // The flags of all pages.
 
-ghost use Rattle.std.specs.Prelude.{◌≡◌, ◌<◌, length, replicate, list_set, true, false, IsTrue, IfOk, All};
-ghost use Rattle.dirty_pages.specs.Pages.{is_dirty, is_protected, in_snapshot};
+ghost use Rattle.std.specs.Prelude.{◌≡◌, ◌<◌, ℕ, List, length, true, false, ◌==◌, IfOk};
+ghost use Rattle.std.specs.List.{list_any};
+ghost use Rattle.dirty_pages.specs.Pages.{PageStates, is_dirty, is_protected, in_snapshot, fresh, served, protected, snapshot_of, copied, served_all};
 
 use crate::flags::PageFlags;
 use bitflags::Flags;
@@ -31,7 +32,7 @@ impl Model for Pages {
 impl Pages {
     /// Pages that are all dirty, and in no snapshot.
     pub fn new(alloc: Global, pages: u32) -> Result<Pages, NoMemory>
-        ensures answer { IfOk result (λ p. p ≡ record { dirty = replicate pages true; in_snapshot = replicate pages false }) }
+        ensures answer { IfOk result (λ p. p ≡ fresh pages) }
     {
         Ok(Pages {
             flags: vec![in alloc; PageFlags::DIRTY; pages as usize]?,
@@ -62,4 +63,48 @@ impl Pages {
     {
         self.flags[p as usize].contains(PageFlags::IN_SNAPSHOT)
     }
+
+    /// Makes the protected page `p` dirty.
+    pub fn serve_fault(&mut self, p: u32)
+        requires page { p < length self.old.dirty }
+        requires protected { is_protected self.old p ≡ true }
+        requires apart { in_snapshot self.old p ≡ false }
+        ensures exact { self.new ≡ served self.old p }
+    {
+        self.flags[p as usize].open();
+    }
+
+    /// Protects every page, so that none is dirty.
+    pub fn protect_all(&mut self)
+        ensures exact { self.new ≡ protected self.old }
+    {
+        for flags in self.flags.iter_mut() {
+            flags.protect();
+        }
+    }
+
+    /// Makes the dirty pages the snapshot, and protects every page.
+    pub fn snapshot(&mut self)
+        requires none { (p : ℕ) → in_snapshot self.old p ≡ false }
+        ensures exact { self.new ≡ snapshot_of self.old }
+    {
+        for flags in self.flags.iter_mut() {
+            flags.save();
+        }
+    }
+
+    /// Takes page `p` out of the snapshot.
+    pub fn copied(&mut self, p: u32)
+        requires page { p < length self.old.dirty }
+        requires marked { in_snapshot self.old p ≡ true }
+        ensures exact { self.new ≡ copied self.old p }
+    {
+        self.flags[p as usize].release();
+    }
+}
+
+/// A law: after `protect_all` the dirty pages are exactly those that were served since.
+pub fn dirty_pages_are_served_pages()
+    ensures law { (pages : PageStates) (ps : List ℕ) (p : ℕ) → p < length pages.dirty → is_dirty (served_all (protected pages) ps) p ≡ list_any (λ q. q == p) ps }
+{
 }
