@@ -187,10 +187,10 @@ page_same bs ys p n c fits le l ne =
     let new = put_mid (p * 4096) 4096 bs ys in
     ⊎_elim
     (λ lt.
-      get_words new 0 n c lt
-      ∙ word_of new (eight bs ((0 + c) * 8)) (0 + c) (λ i h. kept_elsewhere bs ys p (0 + c) i (λ e. ne (ap (λ k. k / 512) (zero-plus c) ∙ e)) (omega arith) l h ∙ eight_get bs ((0 + c) * 8) i h)
-      ∙ sym (word_eight bs (0 + c))
-      ∙ sym (get_words bs 0 n c lt))
+    get_words new 0 n c lt
+    ∙ word_of new (eight bs ((0 + c) * 8)) (0 + c) (λ i h. kept_elsewhere bs ys p (0 + c) i (λ e. ne (ap (λ k. k / 512) (zero-plus c) ∙ e)) (omega arith) l h ∙ eight_get bs ((0 + c) * 8) i h)
+    ∙ sym (word_eight bs (0 + c))
+    ∙ sym (get_words bs 0 n c lt))
     (λ ge. get_or_past (words_of new n) c 0 (omega (arith, length_words new 0 n)) ∙ sym (get_or_past (words_of bs n) c 0 (omega (arith, length_words bs 0 n))))
     (cases_lt c n)
   where

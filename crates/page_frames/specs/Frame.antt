@@ -15,6 +15,6 @@ page_words words p = slice_range words (512 * p) (512 * p + 512)
 abbrev pub frame_bytes : List ℕ → ℕ → List ℕ
 frame_bytes words p = flat_map (to_be_bytes w64) (page_words words p)
 
--- a memory of the same size whose pages other than p are the same
+-- every page other than p is the same
 abbrev pub SameElsewhere : ℕ → List ℕ → List ℕ → Type 0
-SameElsewhere p old new = (length new ≡ length old) × ((c : ℕ) → c / 512 ≢ p → slice_index new c ≡ slice_index old c)
+SameElsewhere p old new = (c : ℕ) → c / 512 ≢ p → slice_index new c ≡ slice_index old c

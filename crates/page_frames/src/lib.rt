@@ -11,6 +11,9 @@ ghost use Rattle.page_frames.specs.Words.{eight, fill_word, words_of};
 ghost use Rattle.page_frames.specs.Frame.{HasPage, page_words, frame_bytes, SameElsewhere};
 ghost use borrow.Rule.Slice.PartMut.{put_mid};
 
+#[cfg(test)]
+mod tests;
+
 use ckpt_base::NoMemory;
 use std::alloc::Global;
 use std::marker::Model;
@@ -76,7 +79,11 @@ impl Frames {
         requires cell { c < length self.old }
         ensures exact { self.new ≡ slice_set self.old c w }
     {
-        write_part(self.bytes.as_mut_slice(), c as usize * CELL_BYTES, &w.to_be_bytes());
+        write_part(
+            self.bytes.as_mut_slice(),
+            c as usize * CELL_BYTES,
+            &w.to_be_bytes(),
+        );
     }
 
     /// Lends the 4,096 bytes of page `p`.
@@ -94,6 +101,7 @@ impl Frames {
         ensures words { page_words self.new p ≡ words_of bytes.now 512 }
         ensures frame { frame_bytes self.new p ≡ bytes.now }
         ensures same { SameElsewhere p self.old self.new }
+        ensures size { length self.new ≡ length self.old }
     {
         write_part(self.bytes.as_mut_slice(), p as usize * FRAME_BYTES, bytes);
     }
@@ -104,6 +112,7 @@ impl Frames {
         requires there { HasPage to.old p }
         ensures words { page_words to.new p ≡ page_words self.now p }
         ensures same { SameElsewhere p to.old to.new }
+        ensures size { length to.new ≡ length to.old }
     {
         let at = p as usize * FRAME_BYTES;
         write_part(to.bytes.as_mut_slice(), at, frame_part(&self.bytes, at));

@@ -33,19 +33,18 @@ returns c =
     let whole : length ys ≡ 4096 = length_part from at 4096 (omega arith) in
     let len : length c.write_part.new.s ≡ c.to.inside.bytes.len = c.write_part.auto.s ∙ c.as_mut_slice.ensures.len in
     let items =
-        with_items_is c.to.inside.bytes c.write_part.new.s len
-        ∙ c.write_part.ensures
-        ∙ ap (λ (b : List ℕ). put_mid at (length b) c.as_mut_slice.result.now b) part
-        ∙ ap (λ (b : List ℕ). put_mid at (length ys) b ys) c.as_mut_slice.ensures.value
-        ∙ ap (λ i. put_mid at i old ys) whole in
+    with_items_is c.to.inside.bytes c.write_part.new.s len
+    ∙ c.write_part.ensures
+    ∙ ap (λ (b : List ℕ). put_mid at (length b) c.as_mut_slice.result.now b) part
+    ∙ ap (λ (b : List ℕ). put_mid at (length ys) b ys) c.as_mut_slice.ensures.value
+    ∙ ap (λ i. put_mid at i old ys) whole in
     let view = ap (λ b. words_of b n) items in
     record {
       words =
-        ap (λ ws. page_words ws p) view
-        ∙ page_is old ys p n (omega arith) (omega arith) whole
-        ∙ page_taken from p (512 * c.self.inside.pages) (omega arith) (omega arith)
-        ∙ ap (λ ws. page_words ws p) c.self.view_is;
-      same = (
-        ap length view ∙ length_words _ 0 n ∙ sym there,
-        λ i ne. ap (λ ws. slice_index ws i) view ∙ page_same old ys p n i (omega arith) (omega arith) whole ne ∙ ap (λ ws. slice_index ws i) c.to.view_is);
+          ap (λ ws. page_words ws p) view
+          ∙ page_is old ys p n (omega arith) (omega arith) whole
+          ∙ page_taken from p (512 * c.self.inside.pages) (omega arith) (omega arith)
+          ∙ ap (λ ws. page_words ws p) c.self.view_is;
+      same = λ i ne. ap (λ ws. slice_index ws i) view ∙ page_same old ys p n i (omega arith) (omega arith) whole ne ∙ ap (λ ws. slice_index ws i) c.to.view_is;
+      size = ap length view ∙ length_words _ 0 n ∙ sym there;
     }

@@ -17,8 +17,8 @@ returns c =
     let small : (i : ℕ) → slice_index bytes i < 256 = λ i. omega (arith, ap (λ xs. slice_index xs i) c.deref.ensures.value, c.frame_part.ensures.bytes i) in
     record {
       answer =
-        c.frame_part.ensures.part
-        ∙ ap (λ b. take 4096 (drop at b)) c.deref.ensures.value
-        ∙ sym (frame_is bytes c.args.p (512 * c.self.inside.pages) small (omega arith) (omega arith))
-        ∙ ap (λ ws. frame_bytes ws c.args.p) c.self.view_is;
+          c.frame_part.ensures.part
+          ∙ ap (λ b. take 4096 (drop at b)) c.deref.ensures.value
+          ∙ sym (frame_is bytes c.args.p (512 * c.self.inside.pages) small (omega arith) (omega arith))
+          ∙ ap (λ ws. frame_bytes ws c.args.p) c.self.view_is;
     }

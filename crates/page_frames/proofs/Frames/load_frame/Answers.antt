@@ -28,7 +28,6 @@ returns c =
     record {
       words = words;
       frame = ap (flat_map (to_be_bytes w64)) words ∙ bytes_back ys (λ i. omega (arith, c.type_inv.bytes i)) c.requires.whole;
-      same = (
-        ap length view ∙ length_words _ 0 n ∙ sym l,
-        λ k ne. ap (λ ws. slice_index ws k) view ∙ page_same old ys p n k (omega arith) (omega arith) c.requires.whole ne ∙ ap (λ ws. slice_index ws k) c.self.view_is);
+      same = λ k ne. ap (λ ws. slice_index ws k) view ∙ page_same old ys p n k (omega arith) (omega arith) c.requires.whole ne ∙ ap (λ ws. slice_index ws k) c.self.view_is;
+      size = ap length view ∙ length_words _ 0 n ∙ sym l;
     }

@@ -10,5 +10,5 @@ returns c =
     let bytes = c.in_ok-vec.ensures.items_if_clones_equal (λ y e. e) in
     record {
       answer =
-        ap (λ b. words_of b n) bytes ∙ words_fill (c.args.pages * 4096) c.args.fill 0 n (omega arith);
+          ap (λ b. words_of b n) bytes ∙ words_fill (c.args.pages * 4096) c.args.fill 0 n (omega arith);
     }

@@ -20,7 +20,7 @@ returns c =
     let len : length c.write_part.new.s ≡ c.self.inside.bytes.len = c.write_part.auto.s ∙ c.as_mut_slice.ensures.len in
     record {
       exact =
-        ap (λ b. words_of b n) (with_items_is c.self.inside.bytes c.write_part.new.s len ∙ c.write_part.ensures ∙ ap (λ b. put_mid (c.args.c * 8) (length c.to_be_bytes.result) b c.to_be_bytes.result) c.as_mut_slice.ensures.value ∙ ap (λ (w : List ℕ). put_mid (c.args.c * 8) (length w) c.self.inside.bytes.items w) c.to_be_bytes.ensures)
-        ∙ words_put c.self.inside.bytes.items c.args.c c.args.w n fits (omega arith) (omega arith)
-        ∙ ap (λ ws. slice_set ws c.args.c c.args.w) c.self.view_is;
+          ap (λ b. words_of b n) (with_items_is c.self.inside.bytes c.write_part.new.s len ∙ c.write_part.ensures ∙ ap (λ b. put_mid (c.args.c * 8) (length c.to_be_bytes.result) b c.to_be_bytes.result) c.as_mut_slice.ensures.value ∙ ap (λ (w : List ℕ). put_mid (c.args.c * 8) (length w) c.self.inside.bytes.items w) c.to_be_bytes.ensures)
+          ∙ words_put c.self.inside.bytes.items c.args.c c.args.w n fits (omega arith) (omega arith)
+          ∙ ap (λ ws. slice_set ws c.args.c c.args.w) c.self.view_is;
     }

@@ -17,10 +17,10 @@ returns c =
     let e : 0 + c.args.c ≡ c.args.c = omega arith in
     record {
       answer =
-        c.read_word.ensures
-        ∙ ap (λ b. from_be_bytes w64 (eight b (c.args.c * 8))) c.deref.ensures.value
-        ∙ sym (word_eight bytes c.args.c)
-        ∙ ap (word_at bytes) (sym e)
-        ∙ sym (get_words bytes 0 (512 * c.self.inside.pages) c.args.c (omega arith))
-        ∙ ap (λ ws. slice_index ws c.args.c) c.self.view_is;
+          c.read_word.ensures
+          ∙ ap (λ b. from_be_bytes w64 (eight b (c.args.c * 8))) c.deref.ensures.value
+          ∙ sym (word_eight bytes c.args.c)
+          ∙ ap (word_at bytes) (sym e)
+          ∙ sym (get_words bytes 0 (512 * c.self.inside.pages) c.args.c (omega arith))
+          ∙ ap (λ ws. slice_index ws c.args.c) c.self.view_is;
     }
