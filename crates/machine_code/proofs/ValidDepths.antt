@@ -47,7 +47,7 @@ tick_or : (i : Instr) → (i ≡ Tick) ⊎ (i ≢ Tick)
 tick_or Tick = inl refl
 tick_or i = inr (λ e. cc)
 
-same_some : {X : Type 0} {a b : X} → Some a ≡ Some b → a ≡ b
+pub same_some : {X : Type 0} {a b : X} → Some a ≡ Some b → a ≡ b
 same_some h = cc
 
 stands_there : (c : CodeView) (d : List ℕ) (p : ℕ) (i : Instr) → AreDepths c d → slice_get c.instrs p ≡ Some i → Stands c d p i
@@ -83,7 +83,3 @@ forced_of c d few a = record {
 -- the depths that were found are those of a valid code
 pub depths_found : (c : CodeView) (found : List ℕ) → c.stack < 2 ^ 32 → ((d : List ℕ) → AreForced c d → found ≡ d) → IsValid c → AreDepths c found
 depths_found c found few only v = subst (AreDepths c) (sym (only v.depths.0 (forced_of c v.depths.0 few v.depths.1))) v.depths.1
-
--- main begins with no operand
-pub first_depth : (c : CodeView) (d : List ℕ) → c.stack < 2 ^ 32 → AreDepths c d → slice_index d 0 ≡ 0
-first_depth c d few a = (forced_of c d few a).quiet 0 (λ p i at f. let lt = forward_lt i p 0 f in omega arith)

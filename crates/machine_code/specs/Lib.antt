@@ -14,8 +14,8 @@ pub mod Pointer
 pub mod Row
 -- runs of a code over a plain memory
 pub mod Run
--- how far a machine is from its next tick
-pub mod Rank
+-- laws of runs
+pub mod RunLaws
 -- the listing
 pub mod Listing
 -- the depths that earlier instructions force

@@ -49,11 +49,15 @@ instr_text In = codes "IN"
 instr_text (Ckpt n) = codes "CKPT " ++ decimal n
 instr_text (Excl k) = codes "EXCL " ++ decimal k
 
+-- the place, the instruction and a newline
+abbrev pub line : ℕ → Instr → List ℕ
+line p i = decimal p ++ codes " " ++ instr_text i ++ codes "\n"
+
 -- the lines of the instructions from place p on
 abbrev pub lines_from : ℕ → List Instr → List ℕ
 lines_from p [] = []
-lines_from p (i ∷ is) = decimal p ++ codes " " ++ instr_text i ++ codes "\n" ++ lines_from (p + 1) is
+lines_from p (i ∷ is) = line p i ++ lines_from (p + 1) is
 
--- a line for each instruction from place 0 on: the place, the name and the operand
+-- a line for each instruction from place 0 on
 abbrev pub listing : List Instr → List ℕ
 listing is = lines_from 0 is

@@ -54,6 +54,7 @@ NoneComesTo c q = (p : ℕ) (i : Instr) → slice_get c.instrs p ≡ Some i → 
 pub record AreDepths (c : CodeView) (depths : List ℕ) : Type 0 where
   pub each : length depths ≡ length c.instrs
   pub stands : EachIndex c.instrs (StandsAt c depths)
+  pub main : slice_index depths 0 ≡ 0
   pub starts : All (λ f. slice_index depths (start f) ≡ 0) c.functions
   pub unreached : (q : ℕ) → NoneComesTo c q → slice_index depths q ≡ 0
 

@@ -11,8 +11,12 @@ mod code;
 mod depths;
 mod event;
 mod instr;
+mod laws;
+mod lines;
 mod valid;
 
 pub use code::Code;
 pub use event::{Caller, Event};
 pub use instr::Instr;
+pub use laws::{rows_are_plain, runs_go_on};
+pub use lines::listing;

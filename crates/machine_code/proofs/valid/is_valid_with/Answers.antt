@@ -2,6 +2,7 @@ use Rattle.std.proofs.Common.{◌≡◌, ◌<◌, ◌^◌, length, ap, sym, ◌�
 use Rattle.std.specs.Prelude.{IsTrue}
 use Rattle.machine_code.specs.CodeView.{CodeView}
 use Rattle.machine_code.specs.Valid.{AreDistinct}
+use Rattle.machine_code.proofs.Forced.{forward_lt}
 use Rattle.machine_code.proofs.ValidDepths.{depths_found, not_forward}
 use Rattle.machine_code.proofs.valid.is_valid_with.Goals as goal
 
@@ -21,6 +22,7 @@ returns c =
       depths = (c.args.found.now, record {
         each = c.requires.length;
         stands = c.all_stand.ensures.0 t;
+        main = c.requires.quiet 0 (λ p i at f. let lt = forward_lt i p 0 f in omega arith);
         starts = c.starts_level.ensures.0 c.if-not-starts_level.false;
         unreached = λ q none. c.requires.quiet q (λ p i at f. not_forward i p q (none p i at) f);
       });
