@@ -1,3 +1,4 @@
 pub mod Forced
 pub mod ValidDepths
 pub mod Listed
+pub mod Table

@@ -1,7 +1,8 @@
 // Codes.
 
-ghost use Rattle.std.specs.Prelude.{◌≡◌, ◌<◌, length, slice_get, Some, IfOk};
+ghost use Rattle.std.specs.Prelude.{◌≡◌, ◌<◌, ℕ, false, length, slice_get, Some, IfSome, IsNone, IsTrue};
 ghost use Rattle.machine_code.specs.CodeView.{CodeView, most_locals};
+ghost use Rattle.machine_code.specs.Valid.{has_checkpoint};
 
 use crate::instr::Instr;
 use std::marker::Model;
@@ -92,6 +93,28 @@ impl Code {
         ensures answer { slice_get self.now.instrs place ≡ Some result }
     {
         self.instrs[place]
+    }
+
+    /// The function of a number, as its start, its number of parameters and its number of locals.
+    #[inline(always)]
+    pub fn function_at(&self, f: u32) -> (u32, u32, u32)
+        requires function { f < length self.now.functions }
+        ensures answer { slice_get self.now.functions f ≡ Some result }
+    {
+        self.functions[f as usize]
+    }
+
+    /// The place after the checkpoint of a node; None exactly where there is none.
+    pub fn place_after(&self, node: u32) -> Option<u32>
+        ensures found { IfSome result (λ q. IsTrue (has_checkpoint self.now node q)) }
+        ensures none { IsNone result → (q : ℕ) → has_checkpoint self.now node q ≡ false }
+    {
+        for k in self.checkpoints.iter() {
+            if k.0 == node {
+                return Some(k.1);
+            }
+        }
+        None
     }
 
     /// The greatest number of locals of a function, or 0 where there is none.
