@@ -1,5 +1,5 @@
 -- What an instruction asks of the machine.
-use Rattle.std.specs.Prelude.{◌≡◌, ℕ, ◌+◌, ◌^◌, ◌<◌, ◌≤◌, length, slice_get, Some, Result, Ok, Err}
+use Rattle.std.specs.Prelude.{◌≡◌, ℕ, ◌+◌, ◌-◌, ◌^◌, ◌<◌, ◌≤◌, length, slice_get, Some, Result, Ok, Err}
 use Rattle.std.specs.List.{All}
 use Rattle.ckpt_base.specs.declared.trap.Trap.{Trap}
 use Rattle.machine_code.specs.declared.instr.Instr.{Instr}

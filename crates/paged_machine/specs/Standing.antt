@@ -20,13 +20,13 @@ CallersStand c depths (k ∷ ks) b m =
     × CallersStand c depths ks k.below k.locals_below
 
 -- the machine stands at an instruction of the valid code c with the operands and locals that belong there, and has room for 1,000 calls
-pub record StandsBy (c : CodeView) (depths : List ℕ) (v : MachineView) : Type 0 where
+pub record StandsBy (c : CodeView) (ds : List ℕ) (v : MachineView) : Type 0 where
   pub valid : IsValid c
-  pub depths : AreDepths c depths
+  pub depths : AreDepths c ds
   pub below : v.state.below ≤ length v.state.operands
   pub locals_below : v.state.locals_below ≤ length v.state.locals
-  pub here : IsAt c depths v.state.place (length v.state.operands - v.state.below) (length v.state.locals - v.state.locals_below)
-  pub callers : CallersStand c depths v.state.callers v.state.below v.state.locals_below
+  pub here : IsAt c ds v.state.place (length v.state.operands - v.state.below) (length v.state.locals - v.state.locals_below)
+  pub callers : CallersStand c ds v.state.callers v.state.below v.state.locals_below
   pub calls : length v.state.callers ≤ 1000
   pub operand_room : 1001 * c.stack ≤ v.operand_room
   pub local_room : 1001 * most_locals c.functions ≤ v.local_room

@@ -9,11 +9,11 @@
 //! memory, and `falls`, that each comes nearer to a tick.
 #![tactic(auto)]
 
-mod machine;
+
 mod pointer;
 mod stack;
 mod steps;
 
-pub use machine::Machine;
+
 pub use machine_code::Event;
 pub use steps::Steps;

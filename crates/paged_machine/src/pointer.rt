@@ -72,7 +72,6 @@ pub(crate) fn moved_back(code: &Code, p: u64, n: u64) -> Result<u64, Trap>
 
 /// A pointer into an object of this length, moved forward.
 #[inline(always)]
-#[tactic(auto, using(crate::proofs::Moved::forward_wraps))]
 fn forward(p: u64, n: u64, length: u32) -> Result<u64, Trap>
     ensures { result ≡ (if nat_le (place_of p) length then at_place p length (pos (place_of p) +ℤ signed n) else Err Trap.OutsideObject) }
 {
@@ -84,7 +83,6 @@ fn forward(p: u64, n: u64, length: u32) -> Result<u64, Trap>
 
 /// A pointer into an object of this length, moved back.
 #[inline(always)]
-#[tactic(auto, using(crate::proofs::Moved::back_wraps))]
 fn back(p: u64, n: u64, length: u32) -> Result<u64, Trap>
     ensures { result ≡ (if nat_le (place_of p) length then at_place p length (pos (place_of p) +ℤ neg_ℤ (signed n)) else Err Trap.OutsideObject) }
 {
