@@ -10,10 +10,12 @@
 #![tactic(auto)]
 
 
+mod machine;
 mod pointer;
 mod stack;
 mod steps;
 
 
+pub use machine::Machine;
 pub use machine_code::Event;
 pub use steps::Steps;
