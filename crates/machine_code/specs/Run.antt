@@ -19,6 +19,9 @@ pub record World : Type 0 where
   pub input : List ℕ
   pub events : List run.Event
 
+abbrev pub world : State → List ℕ → List ℕ → List run.Event → World
+world s m input events = record { state = s; memory = m; input = input; events = events }
+
 -- no page is protected
 abbrev pub unprotected : ℕ → Bool
 unprotected p = false

@@ -1,6 +1,6 @@
 // Codes.
 
-ghost use Rattle.std.specs.Prelude.{◌≡◌, ◌<◌, ℕ, false, length, slice_get, Some, IfSome, IsNone, IsTrue};
+ghost use Rattle.std.specs.Prelude.{◌≡◌, ◌<◌, ◌^◌, ℕ, false, length, slice_get, Some, IfSome, IsNone, IsTrue};
 ghost use Rattle.machine_code.specs.CodeView.{CodeView, most_locals};
 ghost use Rattle.machine_code.specs.Valid.{has_checkpoint};
 
@@ -86,11 +86,21 @@ impl Code {
         self.stack
     }
 
+    /// How many instructions there are.
+    #[inline(always)]
+    pub fn len(&self) -> usize
+        ensures answer { result ≡ length self.now.instrs }
+        ensures short { length self.now.instrs < 2 ^ 63 }
+    {
+        self.instrs.len()
+    }
+
     /// The instruction at a place.
     #[inline(always)]
     pub fn fetch(&self, place: usize) -> Instr
         requires place { place < length self.now.instrs }
         ensures answer { slice_get self.now.instrs place ≡ Some result }
+        ensures short { length self.now.instrs < 2 ^ 63 }
     {
         self.instrs[place]
     }

@@ -1,2 +1,7 @@
+pub mod Checkpoints
+pub mod Homes
+pub mod Memory
 pub mod Moved
+pub mod Rank
+pub mod Stays
 pub mod Tops

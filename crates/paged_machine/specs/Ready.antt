@@ -32,7 +32,6 @@ Named c v n i = Unit {0}
 pub record Ready (c : CodeView) (v : MachineView) (n : ℕ) (i : Instr) : Type 0 where
   pub here : slice_get c.instrs v.state.place ≡ Some i
   pub within : v.state.place < length c.instrs
-  pub place : v.state.place < 2 ^ 63
   pub enough : needs c i + v.state.below ≤ length v.state.operands
   pub room : length v.state.operands + gives i ≤ v.operand_room + needs c i
   pub named : Named c v n i

@@ -1,19 +1,20 @@
 // One instruction at a time.
 
-ghost use Rattle.std.specs.Prelude.{◌≡◌, ℕ, ◌↔◌, List, Bool, true, false, Some, ◌+◌, ◌-◌, ◌*◌, ◌/◌, ◌^◌, ◌<◌, ◌≤◌, ◌∷◌, [], length, slice_index, slice_get, slice_set, cond, IsTrue, IfOk, Result};
+ghost use Rattle.std.specs.Prelude.{◌≡◌, ℕ, ◌↔◌, List, Bool, true, false, Some, ◌+◌, ◌-◌, ◌*◌, ◌/◌, ◌^◌, ◌<◌, ◌≤◌, ◌∷◌, ◌++◌, [], length, slice_index, slice_get, slice_set, cond, IsTrue, IfOk, Result};
 ghost use Rattle.std.specs.List.{All};
 ghost use Rattle.ckpt_base.specs.Trap.{trap_number};
 ghost use Rattle.ckpt_base.specs.Word.{word_of, word_holds};
 ghost use Rattle.dirty_pages.specs.Pages.{is_protected};
 ghost use Rattle.machine_code.specs.declared.instr.Instr.{Instr};
 ghost use Rattle.machine_code.specs.declared.event.Event.{Event};
-ghost use Rattle.machine_code.specs.CodeView.{Function, parameters, locals};
-ghost use Rattle.machine_code.specs.Valid.{IsValid, has_checkpoint};
-ghost use Rattle.machine_code.specs.State.{standing, top, given, spent};
+ghost use Rattle.machine_code.specs.CodeView.{CodeView, Function, parameters, locals};
+ghost use Rattle.machine_code.specs.Valid.{IsValid, has_checkpoint, Stands};
+ghost use Rattle.machine_code.specs.State.{State, standing, top, given, spent};
 ghost use Rattle.machine_code.specs.Row.{row, answered, fetched, put, stored, entered, called, returned};
-ghost use Rattle.machine_code.specs.Run.{World, next_row, after_row, Reaches};
+ghost use Rattle.ckpt_base.specs.Event as run;
+ghost use Rattle.machine_code.specs.Run.{World, world, next_row, Reaches};
 ghost use Rattle.paged_machine.specs.MachineView.{MachineView, live_after, at_state, after_done};
-ghost use Rattle.paged_machine.specs.Standing.{StandsIn};
+ghost use Rattle.paged_machine.specs.Standing.{StandsIn, StandsBy};
 ghost use Rattle.paged_machine.specs.Fitting.{FitTogether};
 ghost use Rattle.paged_machine.specs.Rank.{Nearer, Falls, rank, rank_limit};
 ghost use Rattle.paged_machine.specs.Ready.{Ready, CallFits, IsCell};
@@ -58,6 +59,114 @@ impl Model for Machine {
 }
 
 impl Machine {
+    /// A machine before instruction 0, with 0 ticks and room for the operands and locals of `main` and of 1,000 calls.
+    pub fn new(alloc: Global, code: &Code) -> Result<Machine, NoMemory>
+        requires valid { IsValid code.now }
+        ensures state { IfOk result (λ m. m.state ≡ standing 0 0) }
+        ensures live { IfOk result (λ m. m.live ≡ true) }
+        ensures stands { IfOk result (λ m. StandsIn code.now m) }
+    {
+        let none = Caller {
+            place: 0,
+            below: 0,
+            locals_below: 0,
+        };
+        Ok(Machine {
+            place: 0,
+            operands: Stack::new(alloc, code.stack() as usize * (CALLS + 1))?,
+            below: 0,
+            locals: Locals::new(alloc, code.most_locals() as usize * (CALLS + 1))?,
+            locals_below: 0,
+            callers: vec![in alloc; none; CALLS]?,
+            depth: 0,
+            ticks: 0,
+            live: true,
+        })
+    }
+
+    /// Stands after the checkpoint of a node, with no call active and after this many ticks.
+    pub fn resume(&mut self, code: &Code, node: u32, ticks: u64)
+        requires stands { StandsIn code.now self.old }
+        requires there { (q : ℕ) × IsTrue (has_checkpoint code.now node q) }
+        ensures state { (q : ℕ) → IsTrue (has_checkpoint code.now node q) → self.new.state ≡ standing q ticks }
+        ensures live { self.new.live ≡ true }
+        ensures stands { StandsIn code.now self.new }
+    {
+        if let Some(place) = code.place_after(node) {
+            self.stand_at(place as usize, ticks);
+        }
+    }
+
+    /// Does the next instruction, by its row, and answers what came of it.
+    ///
+    /// `WriteFault` comes exactly where the instruction would write a protected page, and `WantsInput` exactly at `In`; nothing has changed then.
+    /// After `Ended` and `Trapped` the machine is not live.
+    #[inline(always)]
+    pub fn step<L: Ledger>(
+        &mut self,
+        code: &Code,
+        frames: &mut Frames,
+        pages: &Pages,
+        steps: &mut Steps<L>,
+    ) -> Event
+        requires live { self.old.live ≡ true }
+        requires stands { StandsIn code.now self.old }
+        requires fit { FitTogether code.now frames.old pages.now }
+        requires ticks { slice_get code.now.instrs self.old.state.place ≡ Some Instr.Tick → self.old.state.ticks < 2 ^ 64 - 1 }
+        ensures state { self.new.state ≡ (next_row code.now (is_protected pages.now) self.old.state frames.old).state }
+        ensures memory { frames.new ≡ (next_row code.now (is_protected pages.now) self.old.state frames.old).memory }
+        ensures event { result ≡ (next_row code.now (is_protected pages.now) self.old.state frames.old).event }
+        ensures live { self.new.live ≡ live_after true result }
+        ensures steps { steps.new + self.old.state.ticks ≡ steps.old + self.new.state.ticks }
+        ensures stands { StandsIn code.now self.new }
+        ensures size { length frames.new ≡ length frames.old }
+        ensures spared { (cell : ℕ) → is_protected pages.now (cell / 512) ≡ true → slice_index frames.new cell ≡ slice_index frames.old cell }
+        ensures reaches { (w : World) (input : List ℕ) (events : List run.Event) → Reaches code.now w (world self.old.state frames.old input events) → Reaches code.now w (world self.new.state frames.new input (events ++ (next_row code.now (is_protected pages.now) self.old.state frames.old).shown)) }
+        ensures falls { Falls code.now self.old.state result self.new.state }
+        ensures limited { rank code.now self.new.state ≤ rank_limit code.now }
+    {
+        self.act(code, frames, pages, steps)
+    }
+
+    /// Answers a `WantsInput` with a value, and goes on.
+    pub fn give(&mut self, code: &Code, v: i64)
+        requires live { self.old.live ≡ true }
+        requires stands { StandsIn code.now self.old }
+        requires asked { slice_get code.now.instrs self.old.state.place ≡ Some Instr.In }
+        ensures exact { self.new ≡ at_state self.old (given self.old.state 0 (word_of v)) }
+        ensures stands { StandsIn code.now self.new }
+        ensures falls { Nearer code.now self.old.state self.new.state }
+        ensures limited { rank code.now self.new.state ≤ rank_limit code.now }
+    {
+        prove!(self.place < code.len());
+        self.push(word::word_of(v));
+    }
+
+    /// Whether the next instruction takes a tick.
+    #[inline(always)]
+    pub fn at_tick(&self, code: &Code) -> bool
+        requires stands { StandsIn code.now self.now }
+        ensures answer { IsTrue result ↔ (slice_get code.now.instrs self.now.state.place ≡ Some Instr.Tick) }
+    {
+        matches!(code.fetch(self.place), Instr::Tick)
+    }
+
+    /// How many ticks were taken.
+    pub fn ticks(&self) -> u64
+        ensures answer { result ≡ self.now.state.ticks }
+    {
+        self.ticks
+    }
+
+    /// Whether the machine has neither ended nor trapped.
+    pub fn is_live(&self) -> bool
+        ensures answer { result ≡ self.now.live }
+    {
+        self.live
+    }
+}
+
+impl Machine {
     #[inline(always)]
     fn act<L: Ledger>(
         &mut self,
@@ -87,26 +196,26 @@ impl Machine {
             Instr::Back => self.answer(2, moved_back(code, self.word(1), self.word(0))),
             Instr::Fetch => self.fetch(frames, cell(code, self.word(0))),
             Instr::Put => self.put(frames, pages, cell(code, self.word(1))),
-            Instr::Add => self.give(2, word::sum(self.word(1), self.word(0))),
-            Instr::Sub => self.give(2, word::difference(self.word(1), self.word(0))),
-            Instr::Mul => self.give(2, word::product(self.word(1), self.word(0))),
+            Instr::Add => self.replace(2, word::sum(self.word(1), self.word(0))),
+            Instr::Sub => self.replace(2, word::difference(self.word(1), self.word(0))),
+            Instr::Mul => self.replace(2, word::product(self.word(1), self.word(0))),
             Instr::Div => self.answer(2, word::quotient(self.word(1), self.word(0))),
             Instr::Rem => self.answer(2, word::remainder(self.word(1), self.word(0))),
             Instr::Shl => self.answer(2, word::left_shift(self.word(1), self.word(0))),
             Instr::Shr => self.answer(2, word::right_shift(self.word(1), self.word(0))),
-            Instr::And => self.give(2, word::and(self.word(1), self.word(0))),
-            Instr::Or => self.give(2, word::or(self.word(1), self.word(0))),
-            Instr::Xor => self.give(2, word::xor(self.word(1), self.word(0))),
-            Instr::Neg => self.give(1, word::negation(self.word(0))),
-            Instr::Not => self.give(1, word::truth(!word::holds(self.word(0)))),
-            Instr::Inv => self.give(1, word::inverse(self.word(0))),
-            Instr::Test => self.give(1, word::truth(word::holds(self.word(0)))),
-            Instr::Eq => self.give(2, word::truth(word::is_equal(self.word(1), self.word(0)))),
-            Instr::Ne => self.give(2, word::truth(!word::is_equal(self.word(1), self.word(0)))),
-            Instr::Lt => self.give(2, word::truth(word::is_less(self.word(1), self.word(0)))),
-            Instr::Le => self.give(2, word::truth(word::is_at_most(self.word(1), self.word(0)))),
-            Instr::Gt => self.give(2, word::truth(word::is_less(self.word(0), self.word(1)))),
-            Instr::Ge => self.give(2, word::truth(word::is_at_most(self.word(0), self.word(1)))),
+            Instr::And => self.replace(2, word::and(self.word(1), self.word(0))),
+            Instr::Or => self.replace(2, word::or(self.word(1), self.word(0))),
+            Instr::Xor => self.replace(2, word::xor(self.word(1), self.word(0))),
+            Instr::Neg => self.replace(1, word::negation(self.word(0))),
+            Instr::Not => self.replace(1, word::truth(!word::holds(self.word(0)))),
+            Instr::Inv => self.replace(1, word::inverse(self.word(0))),
+            Instr::Test => self.replace(1, word::truth(word::holds(self.word(0)))),
+            Instr::Eq => self.replace(2, word::truth(word::is_equal(self.word(1), self.word(0)))),
+            Instr::Ne => self.replace(2, word::truth(!word::is_equal(self.word(1), self.word(0)))),
+            Instr::Lt => self.replace(2, word::truth(word::is_less(self.word(1), self.word(0)))),
+            Instr::Le => self.replace(2, word::truth(word::is_at_most(self.word(1), self.word(0)))),
+            Instr::Gt => self.replace(2, word::truth(word::is_less(self.word(0), self.word(1)))),
+            Instr::Ge => self.replace(2, word::truth(word::is_at_most(self.word(0), self.word(1)))),
             Instr::Jump(t) => self.jump(t),
             Instr::JumpZ(t) => self.jump_where_zero(t),
             Instr::Call(f) => self.call(function(code, f)),
@@ -146,7 +255,7 @@ impl Machine {
 
     /// Puts a word in the place of the n topmost operands.
     #[inline(always)]
-    fn give(&mut self, n: usize, v: u64) -> Event
+    fn replace(&mut self, n: usize, v: u64) -> Event
         requires enough { n ≤ length self.old.state.operands }
         requires room { length self.old.state.operands < self.old.operand_room + n }
         requires place { self.old.state.place < 2 ^ 63 }
@@ -165,7 +274,7 @@ impl Machine {
         ensures machine { self.new ≡ at_state self.old (given self.old.state 0 v) }
         ensures event { result ≡ Event.Ran }
     {
-        self.give(0, v)
+        self.replace(0, v)
     }
 
     /// Spends the n topmost operands and answers an event.
@@ -199,7 +308,7 @@ impl Machine {
         ensures event { result ≡ (answered self.old.state [] n a).event }
     {
         match a {
-            Ok(v) => self.give(n, v),
+            Ok(v) => self.replace(n, v),
             Err(trap) => self.trap(trap),
         }
     }
@@ -240,7 +349,7 @@ impl Machine {
         ensures event { result ≡ (fetched self.old.state frames.now a).event }
     {
         match a {
-            Ok(c) => self.give(1, frames.word(c as u32)),
+            Ok(c) => self.replace(1, frames.word(c as u32)),
             Err(trap) => self.trap(trap),
         }
     }
@@ -301,6 +410,20 @@ impl Machine {
         self.operands.cut(1);
         self.place = if holds { self.place + 1 } else { t as usize };
         Event::Ran
+    }
+
+    /// Stands before a place with no call active and no operands.
+    fn stand_at(&mut self, place: usize, ticks: u64)
+        ensures { self.new ≡ record self.old { state = standing place ticks; live = true } }
+    {
+        self.place = place;
+        self.operands.cut(self.operands.len());
+        self.below = 0;
+        self.locals.cut_to(0);
+        self.locals_below = 0;
+        self.depth = 0;
+        self.ticks = ticks;
+        self.live = true;
     }
 
     fn call(&mut self, f: (u32, u32, u32)) -> Event
@@ -378,7 +501,8 @@ fn function(code: &Code, f: u32) -> (u32, u32, u32)
 #[inline(always)]
 fn next(code: &Code, machine: &Machine, frames: &Frames) -> Instr
     requires { (i : Instr) × Ready code.now machine.now (length frames.now) i }
-    ensures { Ready code.now machine.now (length frames.now) result }
+    ensures ready { Ready code.now machine.now (length frames.now) result }
+    ensures place { machine.now.state.place < 2 ^ 63 }
 {
     code.fetch(machine.place)
 }
