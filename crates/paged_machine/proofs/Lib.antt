@@ -4,4 +4,5 @@ pub mod Memory
 pub mod Moved
 pub mod Rank
 pub mod Stays
+pub mod OneStep
 pub mod Tops

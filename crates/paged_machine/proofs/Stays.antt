@@ -74,7 +74,7 @@ module _ (c : CodeView) (ds : List ℕ) (v : MachineView) where
   abbrev Here : Instr → Type 0
   Here i = Stands c ds v.state.place i
 
-  has : StandsBy c ds v → (k : ℕ) → k ≤ slice_index ds v.state.place → k + v.state.below ≤ length v.state.operands
+  pub has : StandsBy c ds v → (k : ℕ) → k ≤ slice_index ds v.state.place → k + v.state.below ≤ length v.state.operands
   has fit k h = omega (arith, fit.here.operands, fit.below)
 
   locals_few : StandsBy c ds v → length v.state.callers < 1000 → (m : ℕ) → m ≤ most_locals c.functions → length v.state.locals + m ≤ v.local_room
@@ -94,17 +94,25 @@ module _ (c : CodeView) (ds : List ℕ) (v : MachineView) where
   named n mem Ret at fit fine = fit.locals_below
   named n mem i at fit fine = tt
 
+  -- there is room for what an instruction leaves
+  room_after : (i : Instr) → StandsBy c ds v → Here i → length v.state.operands + gives i ≤ v.operand_room + needs c i
+  room_after i fit fine =
+    let few = (callers_few c ds v.state.callers v.state.below v.state.locals_below fit.depths fit.callers).0 in
+    let t = times (length v.state.callers) 1000 c.stack fit.calls in
+    omega (arith, few_after c ds v.state.place i fit.depths fine, fine.enough, fit.here.operands, fit.below, few, t, fit.operand_room)
+
+  pub room_for : (i : Instr) → StandsBy c ds v → slice_get c.instrs v.state.place ≡ Some i → length v.state.operands + gives i ≤ v.operand_room + needs c i
+  room_for i fit e = room_after i fit (stands_there c ds v.state.place i fit.depths e)
+
   is_ready : (n : ℕ) → FitsMemory c n → (i : Instr) → StandsBy c ds v → slice_get c.instrs v.state.place ≡ Some i → Ready c v n i
   is_ready n mem i fit e =
     let fine = stands_there c ds v.state.place i fit.depths e in
     let within = slice_get_within c.instrs v.state.place i e in
-    let few = (callers_few c ds v.state.callers v.state.below v.state.locals_below fit.depths fit.callers).0 in
-    let t = times (length v.state.callers) 1000 c.stack fit.calls in
     record {
       here = e;
       within = within;
       enough = has fit (needs c i) fine.enough;
-      room = omega (arith, few_after c ds v.state.place i fit.depths fine, fine.enough, fit.here.operands, fit.below, few, t, fit.operand_room);
+      room = room_after i fit fine;
       named = named n mem i e fit fine;
       objects = mem.objects;
     }
