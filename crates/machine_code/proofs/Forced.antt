@@ -51,28 +51,31 @@ here c found d p a known = ⊎_elim (λ e. e) (λ n. n.1 ∙ sym (a.quiet p (λ 
 pub known_more : (c : CodeView) (found new d : List ℕ) (p after : ℕ) (i : Instr) → AreForced c d → slice_get c.instrs p ≡ Some i → length found ≡ length c.instrs → length new ≡ length found → after ≡ slice_index d p - needs c i + gives i → ((q : ℕ) → q < length found → Forward i p q → slice_index new q ≡ after) → ((q : ℕ) → (Forward i p q → ⊥) → slice_index new q ≡ slice_index found q) → Known c found d p → Known c new d (p + 1)
 known_more c found new d p after i a at len len' is leads others known = λ q. ⊎_elim
     (λ f. ⊎_elim
-      (λ lt. inl (leads q (omega arith) f ∙ is ∙ sym (a.forced p q i at f lt)))
-      (λ ge. let ld = a.long in inl (get_or_past new q 0 (omega arith) ∙ sym (get_or_past d q 0 (omega arith))))
-      (cases_lt q (length c.instrs)))
+    (λ lt. inl (leads q (omega arith) f ∙ is ∙ sym (a.forced p q i at f lt)))
+    (λ ge. let ld = a.long in inl (get_or_past new q 0 (omega arith) ∙ sym (get_or_past d q 0 (omega arith))))
+    (cases_lt q (length c.instrs)))
     (λ no. ⊎_elim
-      (λ e. inl (others q no ∙ e))
-      (λ n. inr (λ r j lt e f. ⊎_elim
-        (λ before. n.0 r j before e f)
-        (λ ge.
+    (λ e. inl (others q no ∙ e))
+    (λ n. inr (
+      λ r j lt e f. ⊎_elim
+          (λ before. n.0 r j before e f)
+          (λ ge.
           let same : r ≡ p = omega arith in
           let ij : j ≡ i = same_instr (sym e ∙ ap (slice_get c.instrs) same ∙ at) in
           no (subst (λ x. Forward i x q) same (subst (λ y. Forward y r q) ij f)))
-        (cases_lt r p), others q no ∙ n.1))
-      (known q))
+          (cases_lt r p),
+      others q no ∙ n.1,
+    ))
+    (known q))
     (forward_or i p q)
 
 pub all_known : (c : CodeView) (found d : List ℕ) (p : ℕ) → AreForced c d → length found ≡ length c.instrs → length c.instrs ≤ p → Known c found d p → found ≡ d
 all_known c found d p a len le known =
     let ld = a.long in
     same_lists found d (omega arith) (λ q x h.
-      get_or_default_zero found q x h
-      ∙ ⊎_elim (λ e. e) (λ n. n.1 ∙ sym (a.quiet q (λ r i e f. let w = slice_get_within c.instrs r i e in n.0 r i (omega arith) e f))) (known q)
-      ∙ sym (get_or_default_zero d q x (omega arith)))
+    get_or_default_zero found q x h
+    ∙ ⊎_elim (λ e. e) (λ n. n.1 ∙ sym (a.quiet q (λ r i e f. let w = slice_get_within c.instrs r i e in n.0 r i (omega arith) e f))) (known q)
+    ∙ sym (get_or_default_zero d q x (omega arith)))
 
 pub is_here : (c : CodeView) (found d : List ℕ) (p : ℕ) → AreForced c d → Known c found d p → slice_index found p ≡ slice_index d p
 is_here = here

@@ -64,17 +64,17 @@ pub forced_of : (c : CodeView) (d : List ℕ) → c.stack < 2 ^ 32 → AreDepths
 forced_of c d few a = record {
   long = a.each;
   small = λ q. ⊎_elim
-    (λ lt. let i = some_at c.instrs q lt in let s = stands_there c d q i.0 a i.1 in omega (arith, s.few))
-    (λ ge. omega (arith, no_instr c d q a ge))
-    (cases_lt q (length c.instrs));
+      (λ lt. let i = some_at c.instrs q lt in let s = stands_there c d q i.0 a i.1 in omega (arith, s.few))
+      (λ ge. omega (arith, no_instr c d q a ge))
+      (cases_lt q (length c.instrs));
   forced = λ p q i at f lt. (next_at (IsNext c d p (slice_index d p - needs c i + gives i)) i p q (stands_there c d p i a at).next f).depth;
   quiet = λ q none. ⊎_elim
-    (λ lt. let i = some_at c.instrs q lt in ⊎_elim
+      (λ lt. let i = some_at c.instrs q lt in ⊎_elim
       (λ e. level c d q i.0 e (stands_there c d q i.0 a i.1))
       (λ ne. a.unreached q (λ p j at. none_comes c d (slice_index d p - needs c j + gives j) p q j (λ t. ne (same_some (sym i.1 ∙ t))) (none p j at) (stands_there c d p j a at).next))
       (tick_or i.0))
-    (λ ge. no_instr c d q a ge)
-    (cases_lt q (length c.instrs));
+      (λ ge. no_instr c d q a ge)
+      (cases_lt q (length c.instrs));
 }
   where
     level : (c : CodeView) (d : List ℕ) (q : ℕ) (i : Instr) → i ≡ Tick → Stands c d q i → slice_index d q ≡ 0

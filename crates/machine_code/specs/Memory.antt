@@ -1,5 +1,5 @@
 -- Memories that hold what a code names.
-use Rattle.std.specs.Prelude.{◌≡◌, ℕ, ◌+◌, ◌<◌, ◌≤◌, Some, slice_get}
+use Rattle.std.specs.Prelude.{ℕ, ◌+◌, ◌<◌, ◌≤◌}
 use Rattle.std.specs.List.{All}
 use Rattle.machine_code.specs.declared.instr.Instr.{Instr}
 use Rattle.machine_code.specs.declared.instr.Instr.TheVariants.{LoadC, StoreC}
@@ -13,5 +13,5 @@ CellWithin n i = Unit {0}
 
 -- the cells that the code names are among n, and so are those of its objects
 pub record FitsMemory (c : CodeView) (n : ℕ) : Type 0 where
-  pub cells : (p : ℕ) (i : Instr) → slice_get c.instrs p ≡ Some i → CellWithin n i
+  pub cells : All (CellWithin n) c.instrs
   pub objects : All (λ o. first_cell o + object_length o ≤ n) c.objects

@@ -10,7 +10,7 @@ use Rattle.machine_code.specs.CodeView.{CodeView}
 use Rattle.machine_code.specs.State.{State, top, spent}
 use Rattle.machine_code.specs.Pointer.{cell_of}
 use Rattle.machine_code.specs.Row.{Done, row, stored, put}
-use Rattle.machine_code.specs.Run.{World, unprotected, after_row, after_instr, after_one, after, Reaches}
+use Rattle.machine_code.specs.Run.{World, unprotected, fed, after_row, after_instr, after_one, after, Reaches}
 
 -- a row leaves everything
 pub record IsStill (d : Done) (s : State) (m : List ℕ) : Type 0 where
@@ -54,6 +54,10 @@ reaches_on c w v u r q = record { by = (r.by.0 + q.by.0, sym (after_both c r.by.
 reaches_one : (c : CodeView) (w v : World) → Reaches c w v → Reaches c w (after_one c v)
 reaches_one c w v r = record { by = (suc r.by.0, after_more c r.by.0 w ∙ ap (after_one c) r.by.1) }
 
+-- a run goes on with the input value that the machine asks for
+pub reaches_fed : (c : CodeView) (w v : World) → slice_get c.instrs v.state.place ≡ Some In → Reaches c w v → Reaches c w (fed v v.input)
+reaches_fed c w v at r = subst (Reaches c w) (ap (after_instr c v) at) (reaches_one c w v r)
+
 -- a world after a row that left everything
 still_world : (v : World) (d : Done) → IsStill d v.state v.memory → after_row v d ≡ v
 still_world v d h =
@@ -71,8 +75,8 @@ pub reaches_row : (c : CodeView) (protected : ℕ → Bool) (w v : World) (i : I
 reaches_row c protected w v i at r =
     ⊎_elim
     (λ plain. ⊎_elim
-      (λ e. subst (Reaches c w) (sym (ap (λ j. after_row v (row c protected v.state v.memory j)) e ∙ still_world v (row c protected v.state v.memory In) (record { state = refl; memory = refl; shown = refl }))) r)
-      (λ e. subst (Reaches c w) (ap (after_instr c v) at ∙ e ∙ sym (ap (after_row v) plain)) (reaches_one c w v r))
-      (in_or c v i))
+    (λ e. subst (Reaches c w) (sym (ap (λ j. after_row v (row c protected v.state v.memory j)) e ∙ still_world v (row c protected v.state v.memory In) (record { state = refl; memory = refl; shown = refl }))) r)
+    (λ e. subst (Reaches c w) (ap (after_instr c v) at ∙ e ∙ sym (ap (after_row v) plain)) (reaches_one c w v r))
+    (in_or c v i))
     (λ still. subst (Reaches c w) (sym (still_world v (row c protected v.state v.memory i) still)) r)
     (row_plain c protected v.state v.memory i)

@@ -59,5 +59,7 @@ fn left(code: &Code, found: &[u64], p: usize, i: Instr) -> u64
     requires { p < length found.now }
     ensures { slice_index found.now p < 2 ^ 33 → result ≡ slice_index found.now p - needs code.now i + gives i }
 {
-    found[p].saturating_sub(takes(code, i)).saturating_add(gives_back(i))
+    found[p]
+        .saturating_sub(takes(code, i))
+        .saturating_add(gives_back(i))
 }

@@ -13,6 +13,8 @@ mod event;
 mod instr;
 mod laws;
 mod lines;
+#[cfg(test)]
+mod tests;
 mod valid;
 
 pub use code::Code;

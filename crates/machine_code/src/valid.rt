@@ -6,6 +6,7 @@ ghost use Rattle.machine_code.specs.declared.instr.Instr.{Instr};
 ghost use Rattle.machine_code.specs.CodeView.{home, locals_from, locals_at, start, node};
 ghost use Rattle.machine_code.specs.Needs.{needs, gives, EachNext};
 ghost use Rattle.machine_code.specs.Forced.{AreForced, Forward};
+ghost use Rattle.machine_code.specs.Memory.{CellWithin, FitsMemory};
 ghost use Rattle.machine_code.specs.Valid.{IsValid, IsFunction, Names, LevelAt, IsNext, Stands, StandsAt, AreDepths, IsEntry, IsListedAt, NoneComesTo, IsNewAt, AreDistinct, has_checkpoint};
 
 use crate::code::Code;
@@ -23,6 +24,28 @@ impl Code {
         let starts = starts(alloc, self)?;
         let nodes = nodes(alloc, self)?;
         Ok(is_valid_with(self, &found, &starts, &nodes))
+    }
+
+    /// Whether each cell that the code names and the end of each object lie within a memory of this many cells.
+    pub fn fits(&self, cells: u64) -> bool
+        ensures answer { IsTrue result ↔ FitsMemory self.now cells }
+    {
+        if !self.instrs.iter().all(|i| is_within(cells, *i)) {
+            return false;
+        }
+        self.objects
+            .iter()
+            .all(|o| o.0 as u64 + o.1 as u64 <= cells)
+    }
+}
+
+/// Whether a cell that the instruction names is one of `cells`.
+fn is_within(cells: u64, i: Instr) -> bool
+    ensures { IsTrue result ↔ CellWithin cells i }
+{
+    match i {
+        Instr::LoadC(c) | Instr::StoreC(c) => (c as u64) < cells,
+        _ => true,
     }
 }
 
@@ -141,7 +164,9 @@ fn entries_fit(code: &Code) -> bool
 fn has_checkpoint(code: &Code, node: u32, place: usize) -> bool
     ensures { result ≡ has_checkpoint code.now node place }
 {
-    code.checkpoints.iter().any(|k| k.0 == node && k.1 as usize == place)
+    code.checkpoints
+        .iter()
+        .any(|k| k.0 == node && k.1 as usize == place)
 }
 
 /// Whether the table has the checkpoint at place `p`, if there is one.

@@ -14,7 +14,7 @@ use Rattle.machine_code.specs.declared.event.Event.TheVariants.{WriteFault, Ran}
 use Rattle.machine_code.specs.CodeView.{CodeView, Function, start, parameters, locals, locals_at, locals_from, most_locals}
 use Rattle.machine_code.specs.Needs.{needs, gives, parameters_of}
 use Rattle.machine_code.specs.Valid.{IsValid, IsFunction, AreDepths, Stands, StandsAt, IsNext}
-use Rattle.machine_code.specs.Memory.{FitsMemory}
+use Rattle.machine_code.specs.Memory.{FitsMemory, CellWithin}
 use Rattle.machine_code.specs.State.{State, top, given, spent}
 use Rattle.machine_code.specs.Row.{Done, row, answered, stored, fetched, put, called, entered, returned, ran, trapped}
 use Rattle.paged_machine.specs.MachineView.{MachineView, after_done}
@@ -86,8 +86,8 @@ module _ (c : CodeView) (ds : List ℕ) (v : MachineView) where
 
   named : (n : ℕ) → FitsMemory c n → (i : Instr) → slice_get c.instrs v.state.place ≡ Some i → StandsBy c ds v → Here i → Named c v n i
   named n mem (Addr o) at fit fine = let h = fine.names in let f = fit.valid.objects in omega arith
-  named n mem (LoadC cell) at fit fine = mem.cells v.state.place (LoadC cell) at
-  named n mem (StoreC cell) at fit fine = mem.cells v.state.place (StoreC cell) at
+  named n mem (LoadC cell) at fit fine = all_at (CellWithin n) c.instrs v.state.place (LoadC cell) mem.cells at
+  named n mem (StoreC cell) at fit fine = all_at (CellWithin n) c.instrs v.state.place (StoreC cell) mem.cells at
   named n mem (LoadL i) at fit fine = let h = fine.names in let b = fit.locals_below in let l = fit.here.locals in omega arith
   named n mem (StoreL i) at fit fine = let h = fine.names in let b = fit.locals_below in let l = fit.here.locals in omega arith
   named n mem (Call f) at fit fine = (fine.names, λ g e. ((all_at (IsFunction c) c.functions f g fit.valid.functions e).parameters, λ lt. locals_few fit lt (locals g) (locals_of_most c.functions f g e)))

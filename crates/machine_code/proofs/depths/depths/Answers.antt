@@ -19,22 +19,22 @@ loop-p-preserved c =
     record {
       len = ap length items ∙ len' ∙ c.loop-p.invariant.len;
       known = λ d a.
-        let known = c.loop-p.invariant.known d a in
-        let h = is_here code v.items d p a known in
-        let small = a.small p in
-        let slice = c.as_slice.ensures.value in
-        let el : slice_index c.as_slice.result.now p ≡ slice_index d p = ap (λ l. slice_index l p) slice ∙ h in
-        let after : c.left-after.result ≡ slice_index d p - needs code i + gives i = c.left-after.ensures (omega arith) ∙ ap (λ k. k - needs code i + gives i) el in
-        subst (λ l. Known code l d (p + 1)) (sym items)
-        (known_more code v.items new d p c.left-after.result i a c.fetch-i.ensures.answer c.loop-p.invariant.len len' after
+          let known = c.loop-p.invariant.known d a in
+          let h = is_here code v.items d p a known in
+          let small = a.small p in
+          let slice = c.as_slice.ensures.value in
+          let el : slice_index c.as_slice.result.now p ≡ slice_index d p = ap (λ l. slice_index l p) slice ∙ h in
+          let after : c.left-after.result ≡ slice_index d p - needs code i + gives i = c.left-after.ensures (omega arith) ∙ ap (λ k. k - needs code i + gives i) el in
+          subst (λ l. Known code l d (p + 1)) (sym items)
+          (known_more code v.items new d p c.left-after.result i a c.fetch-i.ensures.answer c.loop-p.invariant.len len' after
           (λ q lt f. c.spread.ensures.leads q (omega (arith, ap length c.as_mut_slice.ensures.value)) f)
           (λ q no. c.spread.ensures.others q no ∙ ap (λ l. slice_index l q) c.as_mut_slice.ensures.value)
           known);
       quiet = λ q none.
-        ap (λ l. slice_index l q) items
-        ∙ c.spread.ensures.others q (none p i c.fetch-i.ensures.answer)
-        ∙ ap (λ l. slice_index l q) c.as_mut_slice.ensures.value
-        ∙ c.loop-p.invariant.quiet q none;
+          ap (λ l. slice_index l q) items
+          ∙ c.spread.ensures.others q (none p i c.fetch-i.ensures.answer)
+          ∙ ap (λ l. slice_index l q) c.as_mut_slice.ensures.value
+          ∙ c.loop-p.invariant.quiet q none;
     }
 
 pub returns-clause-only : goal.returns-clause-only
