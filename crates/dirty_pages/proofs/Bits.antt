@@ -31,12 +31,12 @@ Protected n = Leaves (bit_or (without 8 n 2) 1) false (bit_and n 4 == 4)
 pub opened : (n : ℕ) → n < 8 → Leaves (without 8 (bit_or n 2) 1) true (bit_and n 4 == 4)
 unfolding Opened
 opened = let it : (k : ℕ) (m : Bool) → k < 8 → (bit_and k 1 == 1) ≡ not (bit_and k 2 == 2) → (bit_and k 2 == 2) ≡ true → (bit_and k 4 == 4) ≡ m → Leaves k true m = λ k m s o d e. record { small = s; one = o; dirty_is = d; marked_is = e } in
-  below_eight Opened (it _ _ (lit< tt) refl refl refl) (it _ _ (lit< tt) refl refl refl) (it _ _ (lit< tt) refl refl refl) (it _ _ (lit< tt) refl refl refl) (it _ _ (lit< tt) refl refl refl) (it _ _ (lit< tt) refl refl refl) (it _ _ (lit< tt) refl refl refl) (it _ _ (lit< tt) refl refl refl)
+    below_eight Opened (it _ _ (lit< tt) refl refl refl) (it _ _ (lit< tt) refl refl refl) (it _ _ (lit< tt) refl refl refl) (it _ _ (lit< tt) refl refl refl) (it _ _ (lit< tt) refl refl refl) (it _ _ (lit< tt) refl refl refl) (it _ _ (lit< tt) refl refl refl) (it _ _ (lit< tt) refl refl refl)
 
 pub protected : (n : ℕ) → n < 8 → Leaves (bit_or (without 8 n 2) 1) false (bit_and n 4 == 4)
 unfolding Protected
 protected = let it : (k : ℕ) (m : Bool) → k < 8 → (bit_and k 1 == 1) ≡ not (bit_and k 2 == 2) → (bit_and k 2 == 2) ≡ false → (bit_and k 4 == 4) ≡ m → Leaves k false m = λ k m s o d e. record { small = s; one = o; dirty_is = d; marked_is = e } in
-  below_eight Protected (it _ _ (lit< tt) refl refl refl) (it _ _ (lit< tt) refl refl refl) (it _ _ (lit< tt) refl refl refl) (it _ _ (lit< tt) refl refl refl) (it _ _ (lit< tt) refl refl refl) (it _ _ (lit< tt) refl refl refl) (it _ _ (lit< tt) refl refl refl) (it _ _ (lit< tt) refl refl refl)
+    below_eight Protected (it _ _ (lit< tt) refl refl refl) (it _ _ (lit< tt) refl refl refl) (it _ _ (lit< tt) refl refl refl) (it _ _ (lit< tt) refl refl refl) (it _ _ (lit< tt) refl refl refl) (it _ _ (lit< tt) refl refl refl) (it _ _ (lit< tt) refl refl refl) (it _ _ (lit< tt) refl refl refl)
 
 -- the snapshot's flag set or cleared: the others stay
 Marked : ℕ → Type 0
@@ -73,10 +73,11 @@ one_kind f h = h.1
 -- the flags whose bits are k
 pub left : (f : PageFlags) (k : ℕ) (dirty marked : Bool) → f.0 ≡ k → Leaves k dirty marked → IsPage f × (is_dirty f ≡ dirty) × (is_marked f ≡ marked)
 unfolding IsPage
-left f k dirty marked e l =
-    (subst (λ n. (n < 8) × ((bit_and n 1 == 1) ≡ not (bit_and n 2 == 2))) (sym e) (l.small, l.one),
-     ap (λ n. bit_and n 2 == 2) e ∙ l.dirty_is,
-     ap (λ n. bit_and n 4 == 4) e ∙ l.marked_is)
+left f k dirty marked e l = (
+  subst (λ n. (n < 8) × ((bit_and n 1 == 1) ≡ not (bit_and n 2 == 2))) (sym e) (l.small, l.one),
+  ap (λ n. bit_and n 2 == 2) e ∙ l.dirty_is,
+  ap (λ n. bit_and n 4 == 4) e ∙ l.marked_is,
+)
 
 -- a page that is dirty alone
 abbrev pub fresh_flags : PageFlags

@@ -8,6 +8,8 @@
 
 mod flags;
 mod pages;
+#[cfg(test)]
+mod tests;
 
 pub use flags::PageFlags;
 pub use pages::Pages;

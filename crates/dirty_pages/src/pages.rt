@@ -106,5 +106,4 @@ impl Pages {
 /// A law: after `protect_all` the dirty pages are exactly those that were served since.
 pub fn dirty_pages_are_served_pages()
     ensures law { (pages : PageStates) (ps : List ℕ) (p : ℕ) → p < length pages.dirty → is_dirty (served_all (protected pages) ps) p ≡ list_any (λ q. q == p) ps }
-{
-}
+{}

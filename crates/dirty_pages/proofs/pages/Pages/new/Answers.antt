@@ -18,7 +18,7 @@ returns c =
     let states : List PageFlags → PageStates = λ l. record { dirty = map is_dirty l; in_snapshot = map is_marked l } in
     record {
       answer =
-        ap states items
-        ∙ ap (λ d. record { dirty = d; in_snapshot = map is_marked (replicate c.args.pages fresh_flags) }) (map_replicate is_dirty c.args.pages fresh_flags)
-        ∙ ap (λ s. record { dirty = replicate c.args.pages true; in_snapshot = s }) (map_replicate is_marked c.args.pages fresh_flags);
+          ap states items
+          ∙ ap (λ d. record { dirty = d; in_snapshot = map is_marked (replicate c.args.pages fresh_flags) }) (map_replicate is_dirty c.args.pages fresh_flags)
+          ∙ ap (λ s. record { dirty = replicate c.args.pages true; in_snapshot = s }) (map_replicate is_marked c.args.pages fresh_flags);
     }

@@ -17,10 +17,10 @@ loop-flags-preserved c =
     record {
       pages = All-set IsPage now i new c.protect.ensures.page c.loop-flags.invariant.pages;
       dirty =
-        map-set is_dirty now i new
-        ∙ ap (slice_set (map is_dirty now) i) c.protect.ensures.dirty
-        ∙ ap (λ l. slice_set l i false) c.loop-flags.invariant.dirty
-        ∙ next_done (replicate i false) (map is_dirty old) i (i + 1) false (length-replicate i false) (omega arith) lt
-        ∙ ap (λ l. l ++ drop (i + 1) (map is_dirty old)) (replicate_more i false);
+          map-set is_dirty now i new
+          ∙ ap (slice_set (map is_dirty now) i) c.protect.ensures.dirty
+          ∙ ap (λ l. slice_set l i false) c.loop-flags.invariant.dirty
+          ∙ next_done (replicate i false) (map is_dirty old) i (i + 1) false (length-replicate i false) (omega arith) lt
+          ∙ ap (λ l. l ++ drop (i + 1) (map is_dirty old)) (replicate_more i false);
       marked = map-set_same is_marked now i new _ c.protect.ensures.marked ∙ c.loop-flags.invariant.marked;
     }

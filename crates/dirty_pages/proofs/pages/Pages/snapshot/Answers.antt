@@ -34,21 +34,21 @@ loop-flags-preserved c =
     let lt : i < length (map is_dirty old) = omega (arith, c.loop-flags.auto.flags-items) in
     let l : length (take i (map is_dirty old)) ≡ i = length-take-le i (map is_dirty old) (omega arith) in
     let was : is_dirty (get_or now i (record { 0 = 0 })) ≡ get_or (map is_dirty old) i false =
-        sym (get_or-map is_dirty now i (record { 0 = 0 }) false (omega arith))
-        ∙ ap (λ m. get_or m i false) c.loop-flags.invariant.dirty
-        ∙ not_done (replicate i false) (map is_dirty old) i false (length-replicate i false) in
+    sym (get_or-map is_dirty now i (record { 0 = 0 }) false (omega arith))
+    ∙ ap (λ m. get_or m i false) c.loop-flags.invariant.dirty
+    ∙ not_done (replicate i false) (map is_dirty old) i false (length-replicate i false) in
     record {
       pages = All-set IsPage now i new c.save.ensures.page c.loop-flags.invariant.pages;
       dirty =
-        map-set is_dirty now i new
-        ∙ ap (slice_set (map is_dirty now) i) c.save.ensures.dirty
-        ∙ ap (λ l. slice_set l i false) c.loop-flags.invariant.dirty
-        ∙ next_done (replicate i false) (map is_dirty old) i (i + 1) false (length-replicate i false) (omega arith) lt
-        ∙ ap (λ l. l ++ drop (i + 1) (map is_dirty old)) (replicate_more i false);
+          map-set is_dirty now i new
+          ∙ ap (slice_set (map is_dirty now) i) c.save.ensures.dirty
+          ∙ ap (λ l. slice_set l i false) c.loop-flags.invariant.dirty
+          ∙ next_done (replicate i false) (map is_dirty old) i (i + 1) false (length-replicate i false) (omega arith) lt
+          ∙ ap (λ l. l ++ drop (i + 1) (map is_dirty old)) (replicate_more i false);
       marked =
-        map-set is_marked now i new
-        ∙ ap (slice_set (map is_marked now) i) (c.save.ensures.marked ∙ was)
-        ∙ ap (λ l. slice_set l i (get_or (map is_dirty old) i false)) c.loop-flags.invariant.marked
-        ∙ next_done (take i (map is_dirty old)) (map is_marked old) i (i + 1) (get_or (map is_dirty old) i false) l (omega arith) (omega arith)
-        ∙ ap (λ l. l ++ drop (i + 1) (map is_marked old)) (sym (take_more (map is_dirty old) i false lt));
+          map-set is_marked now i new
+          ∙ ap (slice_set (map is_marked now) i) (c.save.ensures.marked ∙ was)
+          ∙ ap (λ l. slice_set l i (get_or (map is_dirty old) i false)) c.loop-flags.invariant.marked
+          ∙ next_done (take i (map is_dirty old)) (map is_marked old) i (i + 1) (get_or (map is_dirty old) i false) l (omega arith) (omega arith)
+          ∙ ap (λ l. l ++ drop (i + 1) (map is_marked old)) (sym (take_more (map is_dirty old) i false lt));
     }
