@@ -23,7 +23,9 @@ fn a_word_is_its_eight_bytes(rt: HostRuntime) -> Result<(), Fail> {
 fn pages_are_copied_whole(rt: HostRuntime) -> Result<(), Fail> {
     let mut from = Frames::new(rt.alloc(), 2, 7)?;
     from.load_frame(1, [1; FRAME_BYTES].as_slice());
+    assert_eq!(rt; from.pages(), 2);
     let mut to = Frames::new(rt.alloc(), 3, 0)?;
+    assert_eq!(rt; to.pages(), 3);
     from.copy_frame(1, &mut to);
     assert_eq!(rt; to.word(512), 0x0101_0101_0101_0101);
     assert_eq!(rt; to.word(1023), 0x0101_0101_0101_0101);
