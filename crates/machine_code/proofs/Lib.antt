@@ -1,0 +1,4 @@
+pub mod Forced
+pub mod ValidDepths
+pub mod Listed
+pub mod Table

@@ -1,0 +1,4 @@
+-- words and their bytes
+pub mod Words
+-- the pages of a memory
+pub mod Frame

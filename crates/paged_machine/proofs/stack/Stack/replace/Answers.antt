@@ -1,0 +1,15 @@
+use Rattle.std.proofs.Common.{◌≡◌, ◌-◌, ◌∷◌, length, drop, ap, sym, ◌∙◌, arith, vec_len}
+use Rattle.paged_machine.specs.MachineView.{Stacked, tops}
+use Rattle.paged_machine.proofs.Tops.{length_tops, tops_drop, tops_push}
+use Rattle.paged_machine.proofs.stack.Stack.replace.Goals as goal
+
+pub returns : goal.returns
+returns c =
+    let words = c.self.inside.words in
+    let top = c.self.inside.top in
+    let n = c.args.n in
+    let l = ap (λ (s : Stacked). length s.items) c.self.view_is in
+    let r = ap (λ (s : Stacked). s.room) c.self.view_is in
+    let m = length_tops words.items top (omega arith) in
+    ap (λ i. record { items = i; room = vec_len words }) (tops_push words.items (top - n) c.args.v (omega arith) ∙ ap (λ i. c.args.v ∷ i) (sym (tops_drop words.items n top (omega arith) (omega arith))))
+    ∙ ap (λ (s : Stacked). record { items = c.args.v ∷ drop n s.items; room = s.room }) c.self.view_is

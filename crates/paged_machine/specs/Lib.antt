@@ -1,0 +1,10 @@
+-- what contracts see of a machine
+pub mod MachineView
+-- a machine that stands in a valid code
+pub mod Standing
+-- code, memory and pages that fit one another
+pub mod Fitting
+-- how far a machine is from its next tick
+pub mod Rank
+-- what an instruction asks of the machine
+pub mod Ready

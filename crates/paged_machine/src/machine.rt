@@ -1,0 +1,508 @@
+// One instruction at a time.
+
+ghost use Rattle.std.specs.Prelude.{◌≡◌, ℕ, ◌↔◌, List, Bool, true, false, Some, ◌+◌, ◌-◌, ◌*◌, ◌/◌, ◌^◌, ◌<◌, ◌≤◌, ◌∷◌, ◌++◌, [], length, slice_index, slice_get, slice_set, cond, IsTrue, IfOk, Result};
+ghost use Rattle.std.specs.List.{All};
+ghost use Rattle.ckpt_base.specs.Trap.{trap_number};
+ghost use Rattle.ckpt_base.specs.Word.{word_of, word_holds};
+ghost use Rattle.dirty_pages.specs.Pages.{is_protected};
+ghost use Rattle.machine_code.specs.declared.instr.Instr.{Instr};
+ghost use Rattle.machine_code.specs.declared.event.Event.{Event};
+ghost use Rattle.machine_code.specs.CodeView.{CodeView, Function, parameters, locals};
+ghost use Rattle.machine_code.specs.Valid.{IsValid, has_checkpoint, Stands};
+ghost use Rattle.machine_code.specs.State.{State, standing, top, given, spent};
+ghost use Rattle.machine_code.specs.Row.{row, answered, fetched, put, stored, entered, called, returned};
+ghost use Rattle.ckpt_base.specs.Event as run;
+ghost use Rattle.machine_code.specs.Run.{World, world, next_row, Reaches};
+ghost use Rattle.paged_machine.specs.MachineView.{MachineView, live_after, at_state, after_done};
+ghost use Rattle.paged_machine.specs.Standing.{StandsIn, StandsBy};
+ghost use Rattle.paged_machine.specs.Fitting.{FitTogether};
+ghost use Rattle.paged_machine.specs.Rank.{Nearer, Falls, rank, rank_limit};
+ghost use Rattle.paged_machine.specs.Ready.{Ready, CallFits, IsCell};
+
+use crate::pointer::{cell, moved, moved_back};
+use crate::stack::{Locals, Stack};
+use crate::steps::Steps;
+use ckpt_base::{NoMemory, Trap, word};
+use dirty_pages::Pages;
+use machine_code::{Caller, Code, Event, Instr};
+use page_frames::Frames;
+use std::alloc::Global;
+use std::marker::Model;
+use std::sync::ledger::Ledger;
+
+/// How many calls can be active beside `main`.
+const CALLS: usize = 1000;
+
+/// A machine that runs a code. Contracts see where it stands, whether it can go on, and its rooms.
+#[derive(Drop)]
+pub struct Machine {
+    place: usize,
+    operands: Stack,
+    below: usize,
+    locals: Locals,
+    locals_below: usize,
+    callers: Vec<Caller>,
+    depth: usize,
+    ticks: u64,
+    live: bool,
+}
+
+impl Model for Machine {
+    ghost use Rattle.std.specs.Prelude.{◌≤◌, ◌≡◌, vec_len};
+    ghost use Rattle.paged_machine.specs.MachineView.{MachineView, tops};
+
+    ghost Value = { MachineView };
+
+    ghost view = { λ m. record { state = record { place = m.place; operands = m.operands.items; below = m.below; locals = m.locals.items; locals_below = m.locals_below; callers = tops m.callers.items m.depth; ticks = m.ticks }; live = m.live; operand_room = m.operands.room; local_room = m.locals.room } };
+
+    ghost invariant = { λ m. (m.depth ≤ 1000) × (vec_len m.callers ≡ 1000) };
+}
+
+impl Machine {
+    /// A machine before instruction 0, with 0 ticks and room for the operands and locals of `main` and of 1,000 calls.
+    pub fn new(alloc: Global, code: &Code) -> Result<Machine, NoMemory>
+        requires valid { IsValid code.now }
+        ensures state { IfOk result (λ m. m.state ≡ standing 0 0) }
+        ensures live { IfOk result (λ m. m.live ≡ true) }
+        ensures stands { IfOk result (λ m. StandsIn code.now m) }
+    {
+        let none = Caller {
+            place: 0,
+            below: 0,
+            locals_below: 0,
+        };
+        Ok(Machine {
+            place: 0,
+            operands: Stack::new(alloc, code.stack() as usize * (CALLS + 1))?,
+            below: 0,
+            locals: Locals::new(alloc, code.most_locals() as usize * (CALLS + 1))?,
+            locals_below: 0,
+            callers: vec![in alloc; none; CALLS]?,
+            depth: 0,
+            ticks: 0,
+            live: true,
+        })
+    }
+
+    /// Stands after the checkpoint of a node, with no call active and after this many ticks.
+    pub fn resume(&mut self, code: &Code, node: u32, ticks: u64)
+        requires stands { StandsIn code.now self.old }
+        requires there { (q : ℕ) × IsTrue (has_checkpoint code.now node q) }
+        ensures state { (q : ℕ) → IsTrue (has_checkpoint code.now node q) → self.new.state ≡ standing q ticks }
+        ensures live { self.new.live ≡ true }
+        ensures stands { StandsIn code.now self.new }
+    {
+        if let Some(place) = code.place_after(node) {
+            self.stand_at(place as usize, ticks);
+        }
+    }
+
+    /// Does the next instruction, by its row, and answers what came of it.
+    ///
+    /// `WriteFault` comes exactly where the instruction would write a protected page, and `WantsInput` exactly at `In`; nothing has changed then.
+    /// After `Ended` and `Trapped` the machine is not live.
+    #[inline(always)]
+    pub fn step<L: Ledger>(
+        &mut self,
+        code: &Code,
+        frames: &mut Frames,
+        pages: &Pages,
+        steps: &mut Steps<L>,
+    ) -> Event
+        requires live { self.old.live ≡ true }
+        requires stands { StandsIn code.now self.old }
+        requires fit { FitTogether code.now frames.old pages.now }
+        requires ticks { slice_get code.now.instrs self.old.state.place ≡ Some Instr.Tick → self.old.state.ticks < 2 ^ 64 - 1 }
+        ensures state { self.new.state ≡ (next_row code.now (is_protected pages.now) self.old.state frames.old).state }
+        ensures memory { frames.new ≡ (next_row code.now (is_protected pages.now) self.old.state frames.old).memory }
+        ensures event { result ≡ (next_row code.now (is_protected pages.now) self.old.state frames.old).event }
+        ensures live { self.new.live ≡ live_after true result }
+        ensures steps { steps.new + self.old.state.ticks ≡ steps.old + self.new.state.ticks }
+        ensures stands { StandsIn code.now self.new }
+        ensures size { length frames.new ≡ length frames.old }
+        ensures spared { (cell : ℕ) → is_protected pages.now (cell / 512) ≡ true → slice_index frames.new cell ≡ slice_index frames.old cell }
+        ensures reaches { (w : World) (input : List ℕ) (events : List run.Event) → Reaches code.now w (world self.old.state frames.old input events) → Reaches code.now w (world self.new.state frames.new input (events ++ (next_row code.now (is_protected pages.now) self.old.state frames.old).shown)) }
+        ensures falls { Falls code.now self.old.state result self.new.state }
+        ensures limited { rank code.now self.new.state ≤ rank_limit code.now }
+    {
+        self.act(code, frames, pages, steps)
+    }
+
+    /// Answers a `WantsInput` with a value, and goes on.
+    pub fn give(&mut self, code: &Code, v: i64)
+        requires live { self.old.live ≡ true }
+        requires stands { StandsIn code.now self.old }
+        requires asked { slice_get code.now.instrs self.old.state.place ≡ Some Instr.In }
+        ensures exact { self.new ≡ at_state self.old (given self.old.state 0 (word_of v)) }
+        ensures stands { StandsIn code.now self.new }
+        ensures falls { Nearer code.now self.old.state self.new.state }
+        ensures limited { rank code.now self.new.state ≤ rank_limit code.now }
+    {
+        prove!(self.place < code.len());
+        self.push(word::word_of(v));
+    }
+
+    /// Whether the next instruction takes a tick.
+    #[inline(always)]
+    pub fn at_tick(&self, code: &Code) -> bool
+        requires stands { StandsIn code.now self.now }
+        ensures answer { IsTrue result ↔ (slice_get code.now.instrs self.now.state.place ≡ Some Instr.Tick) }
+    {
+        matches!(code.fetch(self.place), Instr::Tick)
+    }
+
+    /// How many ticks were taken.
+    pub fn ticks(&self) -> u64
+        ensures answer { result ≡ self.now.state.ticks }
+    {
+        self.ticks
+    }
+
+    /// Whether the machine has neither ended nor trapped.
+    pub fn is_live(&self) -> bool
+        ensures answer { result ≡ self.now.live }
+    {
+        self.live
+    }
+}
+
+impl Machine {
+    #[inline(always)]
+    fn act<L: Ledger>(
+        &mut self,
+        code: &Code,
+        frames: &mut Frames,
+        pages: &Pages,
+        steps: &mut Steps<L>,
+    ) -> Event
+        requires ready { (i : Instr) × Ready code.now self.old (length frames.old) i }
+        requires pages { length frames.old ≡ 512 * length pages.now.dirty }
+        requires few { length frames.old ≤ 2 ^ 32 }
+        requires ticks { slice_get code.now.instrs self.old.state.place ≡ Some Instr.Tick → self.old.state.ticks < 2 ^ 64 - 1 }
+        ensures machine { (i : Instr) → slice_get code.now.instrs self.old.state.place ≡ Some i → self.new ≡ after_done self.old (row code.now (is_protected pages.now) self.old.state frames.old i) }
+        ensures memory { (i : Instr) → slice_get code.now.instrs self.old.state.place ≡ Some i → frames.new ≡ (row code.now (is_protected pages.now) self.old.state frames.old i).memory }
+        ensures event { (i : Instr) → slice_get code.now.instrs self.old.state.place ≡ Some i → result ≡ (row code.now (is_protected pages.now) self.old.state frames.old i).event }
+        ensures steps { steps.new + self.old.state.ticks ≡ steps.old + self.new.state.ticks }
+    {
+        match next(code, self, frames) {
+            Instr::Tick => self.tick(steps),
+            Instr::Num(n) => self.push(word::word_of(n)),
+            Instr::Addr(o) => self.push((o as u64 + 1) * 0x1_0000_0000),
+            Instr::LoadC(c) => self.push(frames.word(c)),
+            Instr::StoreC(c) => self.store(frames, pages, 1, c),
+            Instr::LoadL(i) => self.load_local(i),
+            Instr::StoreL(i) => self.store_local(i),
+            Instr::Move => self.answer(2, moved(code, self.word(1), self.word(0))),
+            Instr::Back => self.answer(2, moved_back(code, self.word(1), self.word(0))),
+            Instr::Fetch => self.fetch(frames, cell(code, self.word(0))),
+            Instr::Put => self.put(frames, pages, cell(code, self.word(1))),
+            Instr::Add => self.replace(2, word::sum(self.word(1), self.word(0))),
+            Instr::Sub => self.replace(2, word::difference(self.word(1), self.word(0))),
+            Instr::Mul => self.replace(2, word::product(self.word(1), self.word(0))),
+            Instr::Div => self.answer(2, word::quotient(self.word(1), self.word(0))),
+            Instr::Rem => self.answer(2, word::remainder(self.word(1), self.word(0))),
+            Instr::Shl => self.answer(2, word::left_shift(self.word(1), self.word(0))),
+            Instr::Shr => self.answer(2, word::right_shift(self.word(1), self.word(0))),
+            Instr::And => self.replace(2, word::and(self.word(1), self.word(0))),
+            Instr::Or => self.replace(2, word::or(self.word(1), self.word(0))),
+            Instr::Xor => self.replace(2, word::xor(self.word(1), self.word(0))),
+            Instr::Neg => self.replace(1, word::negation(self.word(0))),
+            Instr::Not => self.replace(1, word::truth(!word::holds(self.word(0)))),
+            Instr::Inv => self.replace(1, word::inverse(self.word(0))),
+            Instr::Test => self.replace(1, word::truth(word::holds(self.word(0)))),
+            Instr::Eq => self.replace(2, word::truth(word::is_equal(self.word(1), self.word(0)))),
+            Instr::Ne => self.replace(2, word::truth(!word::is_equal(self.word(1), self.word(0)))),
+            Instr::Lt => self.replace(2, word::truth(word::is_less(self.word(1), self.word(0)))),
+            Instr::Le => self.replace(2, word::truth(word::is_at_most(self.word(1), self.word(0)))),
+            Instr::Gt => self.replace(2, word::truth(word::is_less(self.word(0), self.word(1)))),
+            Instr::Ge => self.replace(2, word::truth(word::is_at_most(self.word(0), self.word(1)))),
+            Instr::Jump(t) => self.jump(t),
+            Instr::JumpZ(t) => self.jump_where_zero(t),
+            Instr::Call(f) => self.call(function(code, f)),
+            Instr::Ret => self.ret(),
+            Instr::Drop => self.spend(1, Event::Ran),
+            Instr::OutC => self.spend(1, Event::Out(word::low_byte(self.word(0)))),
+            Instr::OutB(b) => self.spend(0, Event::Out(b)),
+            Instr::OutN(d) => self.spend(0, Event::OutNumber(word::signed(self.word(d as usize)))),
+            Instr::In => Event::WantsInput,
+            Instr::Ckpt(n) => self.spend(0, Event::Checkpoint(n)),
+            Instr::Excl(k) => self.spend(0, Event::Exclude(k)),
+        }
+    }
+
+    /// The operand that stands k below the topmost.
+    #[inline(always)]
+    fn word(&self, k: usize) -> u64
+        requires { k < length self.now.state.operands }
+        ensures { result ≡ top self.now.state k }
+    {
+        self.operands.word(k)
+    }
+
+    #[inline(always)]
+    fn tick<L: Ledger>(&mut self, steps: &mut Steps<L>) -> Event
+        requires place { self.old.state.place < 2 ^ 63 }
+        requires ticks { self.old.state.ticks < 2 ^ 64 - 1 }
+        ensures machine { self.new ≡ at_state self.old (record self.old.state { place = self.old.state.place + 1; ticks = self.old.state.ticks + 1 }) }
+        ensures event { result ≡ Event.Ticked }
+        ensures steps { steps.new ≡ steps.old + 1 }
+    {
+        self.place += 1;
+        self.ticks += 1;
+        steps.tick();
+        Event::Ticked
+    }
+
+    /// Puts a word in the place of the n topmost operands.
+    #[inline(always)]
+    fn replace(&mut self, n: usize, v: u64) -> Event
+        requires enough { n ≤ length self.old.state.operands }
+        requires room { length self.old.state.operands < self.old.operand_room + n }
+        requires place { self.old.state.place < 2 ^ 63 }
+        ensures machine { self.new ≡ at_state self.old (given self.old.state n v) }
+        ensures event { result ≡ Event.Ran }
+    {
+        self.operands.replace(n, v);
+        self.place += 1;
+        Event::Ran
+    }
+
+    #[inline(always)]
+    fn push(&mut self, v: u64) -> Event
+        requires room { length self.old.state.operands < self.old.operand_room }
+        requires place { self.old.state.place < 2 ^ 63 }
+        ensures machine { self.new ≡ at_state self.old (given self.old.state 0 v) }
+        ensures event { result ≡ Event.Ran }
+    {
+        self.replace(0, v)
+    }
+
+    /// Spends the n topmost operands and answers an event.
+    #[inline(always)]
+    fn spend(&mut self, n: usize, event: Event) -> Event
+        requires enough { n ≤ length self.old.state.operands }
+        requires place { self.old.state.place < 2 ^ 63 }
+        ensures machine { self.new ≡ at_state self.old (spent self.old.state n) }
+        ensures event { result ≡ event }
+    {
+        self.operands.cut(n);
+        self.place += 1;
+        event
+    }
+
+    #[inline(always)]
+    fn trap(&mut self, trap: Trap) -> Event
+        ensures machine { self.new ≡ record self.old { live = false } }
+        ensures event { result ≡ Event.Trapped (trap_number trap) }
+    {
+        self.live = false;
+        Event::Trapped(trap.number())
+    }
+
+    #[inline(always)]
+    fn answer(&mut self, n: usize, a: Result<u64, Trap>) -> Event
+        requires enough { n ≤ length self.old.state.operands }
+        requires room { length self.old.state.operands < self.old.operand_room + n }
+        requires place { self.old.state.place < 2 ^ 63 }
+        ensures machine { self.new ≡ after_done self.old (answered self.old.state [] n a) }
+        ensures event { result ≡ (answered self.old.state [] n a).event }
+    {
+        match a {
+            Ok(v) => self.replace(n, v),
+            Err(trap) => self.trap(trap),
+        }
+    }
+
+    #[inline(always)]
+    fn load_local(&mut self, i: u32) -> Event
+        requires local { self.old.state.locals_below + i < length self.old.state.locals }
+        requires room { length self.old.state.operands < self.old.operand_room }
+        requires place { self.old.state.place < 2 ^ 63 }
+        ensures machine { self.new ≡ at_state self.old (given self.old.state 0 (slice_index self.old.state.locals (self.old.state.locals_below + i))) }
+        ensures event { result ≡ Event.Ran }
+    {
+        let v = self.locals.get(self.locals_below, i);
+        self.push(v)
+    }
+
+    #[inline(always)]
+    fn store_local(&mut self, i: u32) -> Event
+        requires enough { 1 ≤ length self.old.state.operands }
+        requires local { self.old.state.locals_below + i < length self.old.state.locals }
+        requires place { self.old.state.place < 2 ^ 63 }
+        ensures machine { self.new ≡ at_state self.old (record (spent self.old.state 1) { locals = slice_set self.old.state.locals (self.old.state.locals_below + i) (top self.old.state 0) }) }
+        ensures event { result ≡ Event.Ran }
+    {
+        let v = self.word(0);
+        self.locals.set(self.locals_below, i, v);
+        self.spend(1, Event::Ran)
+    }
+
+    #[inline(always)]
+    fn fetch(&mut self, frames: &Frames, a: Result<u64, Trap>) -> Event
+        requires enough { 1 ≤ length self.old.state.operands }
+        requires room { length self.old.state.operands < self.old.operand_room + 1 }
+        requires place { self.old.state.place < 2 ^ 63 }
+        requires cell { IsCell (length frames.now) a }
+        requires few { length frames.now ≤ 2 ^ 32 }
+        ensures machine { self.new ≡ after_done self.old (fetched self.old.state frames.now a) }
+        ensures event { result ≡ (fetched self.old.state frames.now a).event }
+    {
+        match a {
+            Ok(c) => self.replace(1, frames.word(c as u32)),
+            Err(trap) => self.trap(trap),
+        }
+    }
+
+    #[inline(always)]
+    fn put(&mut self, frames: &mut Frames, pages: &Pages, a: Result<u64, Trap>) -> Event
+        requires enough { 2 ≤ length self.old.state.operands }
+        requires place { self.old.state.place < 2 ^ 63 }
+        requires cell { IsCell (length frames.old) a }
+        requires few { length frames.old ≤ 2 ^ 32 }
+        requires pages { length frames.old ≡ 512 * length pages.now.dirty }
+        ensures machine { self.new ≡ after_done self.old (put (is_protected pages.now) self.old.state frames.old a) }
+        ensures memory { frames.new ≡ (put (is_protected pages.now) self.old.state frames.old a).memory }
+        ensures event { result ≡ (put (is_protected pages.now) self.old.state frames.old a).event }
+    {
+        match a {
+            Ok(c) => self.store(frames, pages, 2, c as u32),
+            Err(trap) => self.trap(trap),
+        }
+    }
+
+    /// Writes the topmost operand into a cell and spends n operands; a fault where its page is protected.
+    #[inline(always)]
+    fn store(&mut self, frames: &mut Frames, pages: &Pages, n: usize, c: u32) -> Event
+        requires some { 1 ≤ n }
+        requires enough { n ≤ length self.old.state.operands }
+        requires place { self.old.state.place < 2 ^ 63 }
+        requires cell { c < length frames.old }
+        requires pages { length frames.old ≡ 512 * length pages.now.dirty }
+        ensures machine { self.new ≡ after_done self.old (stored (is_protected pages.now) self.old.state frames.old n c (top self.old.state 0)) }
+        ensures memory { frames.new ≡ (stored (is_protected pages.now) self.old.state frames.old n c (top self.old.state 0)).memory }
+        ensures event { result ≡ (stored (is_protected pages.now) self.old.state frames.old n c (top self.old.state 0)).event }
+    {
+        if pages.is_protected(c / 512) {
+            return Event::WriteFault(c / 512);
+        }
+        frames.set_word(c, self.word(0));
+        self.spend(n, Event::Ran)
+    }
+
+    #[inline(always)]
+    fn jump(&mut self, t: u32) -> Event
+        ensures machine { self.new ≡ at_state self.old (record self.old.state { place = t }) }
+        ensures event { result ≡ Event.Ran }
+    {
+        self.place = t as usize;
+        Event::Ran
+    }
+
+    #[inline(always)]
+    fn jump_where_zero(&mut self, t: u32) -> Event
+        requires enough { 1 ≤ length self.old.state.operands }
+        requires place { self.old.state.place < 2 ^ 63 }
+        ensures machine { self.new ≡ at_state self.old (record (spent self.old.state 1) { place = cond (word_holds (top self.old.state 0)) (self.old.state.place + 1) t }) }
+        ensures event { result ≡ Event.Ran }
+    {
+        let holds = word::holds(self.word(0));
+        self.operands.cut(1);
+        self.place = if holds { self.place + 1 } else { t as usize };
+        Event::Ran
+    }
+
+    /// Stands before a place with no call active and no operands.
+    fn stand_at(&mut self, place: usize, ticks: u64)
+        ensures { self.new ≡ record self.old { state = standing place ticks; live = true } }
+    {
+        self.place = place;
+        self.operands.cut(self.operands.len());
+        self.below = 0;
+        self.locals.cut_to(0);
+        self.locals_below = 0;
+        self.depth = 0;
+        self.ticks = ticks;
+        self.live = true;
+    }
+
+    fn call(&mut self, f: (u32, u32, u32)) -> Event
+        requires enough { parameters f + self.old.state.below ≤ length self.old.state.operands }
+        requires place { self.old.state.place < 2 ^ 63 }
+        requires fits { CallFits self.old f }
+        ensures machine { self.new ≡ after_done self.old (called self.old.state [] (Some f)) }
+        ensures event { result ≡ (called self.old.state [] (Some f)).event }
+    {
+        if self.depth == CALLS {
+            return self.trap(Trap::TooManyCalls);
+        }
+        self.enter(f);
+        Event::Ran
+    }
+
+    fn enter(&mut self, f: (u32, u32, u32))
+        requires enough { parameters f ≤ length self.old.state.operands }
+        requires place { self.old.state.place < 2 ^ 63 }
+        requires parameters { parameters f ≤ locals f }
+        requires locals { length self.old.state.locals + locals f ≤ self.old.local_room }
+        requires calls { length self.old.state.callers < 1000 }
+        ensures { self.new ≡ at_state self.old (entered self.old.state f) }
+    {
+        let parameters = f.1 as usize;
+        let locals_below = self.locals.len();
+        self.locals.enter(&self.operands, parameters, f.2 as usize);
+        self.operands.cut(parameters);
+        self.callers[self.depth] = Caller {
+            place: self.place + 1,
+            below: self.below,
+            locals_below: self.locals_below,
+        };
+        self.depth += 1;
+        self.below = self.operands.len();
+        self.locals_below = locals_below;
+        self.place = f.0 as usize;
+    }
+
+    #[inline(always)]
+    fn ret(&mut self) -> Event
+        requires enough { 1 + self.old.state.below ≤ length self.old.state.operands }
+        requires room { length self.old.state.operands ≤ self.old.operand_room }
+        requires locals { self.old.state.locals_below ≤ length self.old.state.locals }
+        ensures machine { self.new ≡ after_done self.old (returned self.old.state [] self.old.state.callers) }
+        ensures event { result ≡ (returned self.old.state [] self.old.state.callers).event }
+    {
+        let v = self.operands.word(0);
+        if self.depth == 0 {
+            self.live = false;
+            return Event::Ended(v.cast_signed());
+        }
+        self.depth -= 1;
+        let caller = self.callers[self.depth];
+        let n = self.operands.len() - self.below;
+        self.operands.replace(n, v);
+        self.locals.cut_to(self.locals_below);
+        self.place = caller.place;
+        self.below = caller.below;
+        self.locals_below = caller.locals_below;
+        Event::Ran
+    }
+}
+
+/// The function of a number, which is there.
+#[inline(always)]
+fn function(code: &Code, f: u32) -> (u32, u32, u32)
+    requires { f < length code.now.functions }
+    ensures { slice_get code.now.functions f ≡ Some result }
+{
+    code.function_at(f)
+}
+
+/// The instruction at the machine's place.
+#[inline(always)]
+fn next(code: &Code, machine: &Machine, frames: &Frames) -> Instr
+    requires { (i : Instr) × Ready code.now machine.now (length frames.now) i }
+    ensures ready { Ready code.now machine.now (length frames.now) result }
+    ensures place { machine.now.state.place < 2 ^ 63 }
+{
+    code.fetch(machine.place)
+}
