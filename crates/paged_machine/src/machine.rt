@@ -154,6 +154,7 @@ impl Machine {
     }
 
     /// How many ticks were taken.
+    #[inline(always)]
     pub fn ticks(&self) -> u64
         ensures answer { result ≡ self.now.state.ticks }
     {
@@ -161,6 +162,7 @@ impl Machine {
     }
 
     /// Whether the machine has neither ended nor trapped.
+    #[inline(always)]
     pub fn is_live(&self) -> bool
         ensures answer { result ≡ self.now.live }
     {
@@ -409,9 +411,11 @@ impl Machine {
         ensures event { result ≡ Event.Ran }
     {
         let holds = word::holds(self.word(0));
-        self.operands.cut(1);
-        self.place = if holds { self.place + 1 } else { t as usize };
-        Event::Ran
+        let event = self.spend(1, Event::Ran);
+        if !holds {
+            self.place = t as usize;
+        }
+        event
     }
 
     /// Stands before a place with no call active and no operands.

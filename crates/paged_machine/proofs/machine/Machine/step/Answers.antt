@@ -50,9 +50,9 @@ returns g c =
       spared = λ cell p. ap (λ n. slice_index n cell) memory ∙ spares.spared cell p;
       reaches = reaches_next code protected v.state m i c.act.new.self.state c.act.new.frames at next_state next_memory;
       asked = λ e.
-        let still : c.act.new.self.state ≡ v.state = subst (λ k. Falls code v.state k c.act.new.self.state) e fall in
-        let is_in : i ≡ In = subst (Tells protected i) e tells in
-        ap (λ (t : State). slice_get code.instrs t.place) still ∙ at ∙ ap Some is_in;
+          let still : c.act.new.self.state ≡ v.state = subst (λ k. Falls code v.state k c.act.new.self.state) e fall in
+          let is_in : i ≡ In = subst (Tells protected i) e tells in
+          ap (λ (t : State). slice_get code.instrs t.place) still ∙ at ∙ ap Some is_in;
       fault = λ p e. let on : protected p ≡ true = subst (Tells protected i) e tells in (is_there c.args.pages.now p on, on);
       falls = fall;
       limited = limited code c.act.new.self.state stands.calls;
