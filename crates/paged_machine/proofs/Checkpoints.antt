@@ -68,13 +68,13 @@ one_place c n q r v e f =
     let a = entry_of n q c.checkpoints e in
     let b = entry_of n r c.checkpoints f in
     let same : a.index ≡ b.index =
-      ⊎_elim
-      (λ lt. absurd (earlier c.checkpoints a.index b.index v.nodes lt b.within (a.is_node ∙ sym b.is_node)))
-      (λ ge. ⊎_elim
-        (λ lt. absurd (earlier c.checkpoints b.index a.index v.nodes lt a.within (b.is_node ∙ sym a.is_node)))
-        (λ le. omega arith)
-        (cases_lt b.index a.index))
-      (cases_lt a.index b.index) in
+    ⊎_elim
+    (λ lt. absurd (earlier c.checkpoints a.index b.index v.nodes lt b.within (a.is_node ∙ sym b.is_node)))
+    (λ ge. ⊎_elim
+    (λ lt. absurd (earlier c.checkpoints b.index a.index v.nodes lt a.within (b.is_node ∙ sym a.is_node)))
+    (λ le. omega arith)
+    (cases_lt b.index a.index))
+    (cases_lt a.index b.index) in
     sym a.is_place ∙ ap (λ i. place_after (get_or c.checkpoints i (0, 0))) same ∙ b.is_place
 
 -- behind a checkpoint there is no operand and no local

@@ -6,3 +6,4 @@ pub mod Rank
 pub mod Stays
 pub mod OneStep
 pub mod Tops
+pub mod Tells

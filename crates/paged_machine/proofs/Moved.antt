@@ -44,9 +44,9 @@ forward_wraps p len k n r le small fits e =
     ⊎_elim
     (λ lt. ap (λ z. at_place p len (pos k +ℤ z)) (low n lt) ∙ added p len k n r le small (omega arith) e)
     (λ ge.
-      let m = 2 ^ 64 - suc n in
-      let back : n ≡ 2 ^ 64 - suc m = omega arith in
-      ap (λ z. at_place p len (pos k +ℤ z)) (high n m (omega arith) back) ∙ taken p len k m r le small (omega arith) (e ∙ ap (λ i. (k + i) % 2 ^ 64) back))
+    let m = 2 ^ 64 - suc n in
+    let back : n ≡ 2 ^ 64 - suc m = omega arith in
+    ap (λ z. at_place p len (pos k +ℤ z)) (high n m (omega arith) back) ∙ taken p len k m r le small (omega arith) (e ∙ ap (λ i. (k + i) % 2 ^ 64) back))
     (cases_lt n (2 ^ 63))
 
 pub back_wraps : (p len k n r : ℕ) → k ≤ len → len < 2 ^ 32 → n < 2 ^ 64 → r ≡ (k + (2 ^ 64 - n)) % 2 ^ 64 → at_place p len (pos k +ℤ neg_ℤ (signed n)) ≡ at_place p len (pos r)
@@ -54,10 +54,10 @@ back_wraps p len k n r le small fits e =
     ⊎_elim
     (λ lt. ap (λ z. at_place p len (pos k +ℤ neg_ℤ z)) (low n lt) ∙ by_sign p len k n r le small lt e)
     (λ ge.
-      let m = 2 ^ 64 - suc n in
-      let back : n ≡ 2 ^ 64 - suc m = omega arith in
-      let to : 2 ^ 64 - n ≡ suc m = omega arith in
-      ap (λ z. at_place p len (pos k +ℤ neg_ℤ z)) (high n m (omega arith) back) ∙ added p len k (suc m) r le small (omega arith) (e ∙ ap (λ i. (k + i) % 2 ^ 64) to))
+    let m = 2 ^ 64 - suc n in
+    let back : n ≡ 2 ^ 64 - suc m = omega arith in
+    let to : 2 ^ 64 - n ≡ suc m = omega arith in
+    ap (λ z. at_place p len (pos k +ℤ neg_ℤ z)) (high n m (omega arith) back) ∙ added p len k (suc m) r le small (omega arith) (e ∙ ap (λ i. (k + i) % 2 ^ 64) to))
     (cases_lt n (2 ^ 63))
   where
     by_sign : (p len k n r : ℕ) → k ≤ len → len < 2 ^ 32 → n < 2 ^ 63 → r ≡ (k + (2 ^ 64 - n)) % 2 ^ 64 → at_place p len (pos k +ℤ neg_ℤ (pos n)) ≡ at_place p len (pos r)

@@ -101,19 +101,19 @@ module _ (c : CodeView) (s : State) where
   returns : (m : List ℕ) (ks : List Caller) → ks ≡ s.callers → s.place < length c.instrs → Falls c s (returned s m ks).event (returned s m ks).state
   returns m [] e le = tt
   returns m (k ∷ ks) e le =
-    let p = some_count (length c.instrs) s.place (length s.callers) le in
-    let r : callers_count (length c.instrs) s.callers ≡ callers_count (length c.instrs) (k ∷ ks) = ap (callers_count (length c.instrs)) (sym e) in
-    inr (omega arith)
+      let p = some_count (length c.instrs) s.place (length s.callers) le in
+      let r : callers_count (length c.instrs) s.callers ≡ callers_count (length c.instrs) (k ∷ ks) = ap (callers_count (length c.instrs)) (sym e) in
+      inr (omega arith)
 
   pub falls : (ds : List ℕ) (protected : ℕ → Bool) (m : List ℕ) (i : Instr) → s.place < length c.instrs → Stands c ds s.place i → Falls c s (row c protected s m i).event (row c protected s m i).state
   falls ds protected m Tick le fine = tt
   falls ds protected m In le fine = refl
   falls ds protected m (Jump t) le fine = jumps ds _ t s.operands le fine.next
   falls ds protected m (JumpZ t) le fine =
-    let next : Bool → State = λ b. record s { place = cond b (s.place + 1) t; operands = drop 1 s.operands } in
-    let both : (b : Bool) → Nearer c s (next b) =
+      let next : Bool → State = λ b. record s { place = cond b (s.place + 1) t; operands = drop 1 s.operands } in
+      let both : (b : Bool) → Nearer c s (next b) =
       λ b. elim b as (λ b. Nearer c s (next b)) [ true ↦ nearer_later (s.place + 1) (drop 1 s.operands) s.locals le (omega arith) | false ↦ jumps ds _ t (drop 1 s.operands) le fine.next.0 ] in
-    both (word_holds (top s 0))
+      both (word_holds (top s 0))
   falls ds protected m (Call f) le fine = calls m (slice_get c.functions f) le
   falls ds protected m Ret le fine = returns m s.callers refl le
   falls ds protected m Move le fine = answers m 2 _ le
@@ -134,8 +134,10 @@ least n p d = mul-le-mul (n-p n p) (pow-le-pow_right (pos n) (few d))
   where
     n-p : (n p : ℕ) → n - p ≤ n
     n-p n p = omega arith
+
     pos : (n : ℕ) → 0 < n + 1
     pos n = omega arith
+
     few : (d : ℕ) → 1000 - d ≤ 1000
     few d = omega arith
 

@@ -79,10 +79,10 @@ module _ (c : CodeView) (ds : List ℕ) (v : MachineView) where
 
   locals_few : StandsBy c ds v → length v.state.callers < 1000 → (m : ℕ) → m ≤ most_locals c.functions → length v.state.locals + m ≤ v.local_room
   locals_few fit lt m le =
-    let few = (callers_few c ds v.state.callers v.state.below v.state.locals_below fit.depths fit.callers).1 in
-    let most = (few_at c ds v.state.place _ _ fit.depths fit.here).1 in
-    let t = times (length v.state.callers) 999 (most_locals c.functions) (omega arith) in
-    omega (arith, few, most, fit.locals_below, fit.local_room, t)
+      let few = (callers_few c ds v.state.callers v.state.below v.state.locals_below fit.depths fit.callers).1 in
+      let most = (few_at c ds v.state.place _ _ fit.depths fit.here).1 in
+      let t = times (length v.state.callers) 999 (most_locals c.functions) (omega arith) in
+      omega (arith, few, most, fit.locals_below, fit.local_room, t)
 
   named : (n : ℕ) → FitsMemory c n → (i : Instr) → slice_get c.instrs v.state.place ≡ Some i → StandsBy c ds v → Here i → Named c v n i
   named n mem (Addr o) at fit fine = let h = fine.names in let f = fit.valid.objects in omega arith
@@ -97,31 +97,31 @@ module _ (c : CodeView) (ds : List ℕ) (v : MachineView) where
   -- there is room for what an instruction leaves
   room_after : (i : Instr) → StandsBy c ds v → Here i → length v.state.operands + gives i ≤ v.operand_room + needs c i
   room_after i fit fine =
-    let few = (callers_few c ds v.state.callers v.state.below v.state.locals_below fit.depths fit.callers).0 in
-    let t = times (length v.state.callers) 1000 c.stack fit.calls in
-    omega (arith, few_after c ds v.state.place i fit.depths fine, fine.enough, fit.here.operands, fit.below, few, t, fit.operand_room)
+      let few = (callers_few c ds v.state.callers v.state.below v.state.locals_below fit.depths fit.callers).0 in
+      let t = times (length v.state.callers) 1000 c.stack fit.calls in
+      omega (arith, few_after c ds v.state.place i fit.depths fine, fine.enough, fit.here.operands, fit.below, few, t, fit.operand_room)
 
   pub room_for : (i : Instr) → StandsBy c ds v → slice_get c.instrs v.state.place ≡ Some i → length v.state.operands + gives i ≤ v.operand_room + needs c i
   room_for i fit e = room_after i fit (stands_there c ds v.state.place i fit.depths e)
 
   is_ready : (n : ℕ) → FitsMemory c n → (i : Instr) → StandsBy c ds v → slice_get c.instrs v.state.place ≡ Some i → Ready c v n i
   is_ready n mem i fit e =
-    let fine = stands_there c ds v.state.place i fit.depths e in
-    let within = slice_get_within c.instrs v.state.place i e in
-    record {
-      here = e;
-      within = within;
-      enough = has fit (needs c i) fine.enough;
-      room = room_after i fit fine;
-      named = named n mem i e fit fine;
-      objects = mem.objects;
-    }
+      let fine = stands_there c ds v.state.place i fit.depths e in
+      let within = slice_get_within c.instrs v.state.place i e in
+      record {
+        here = e;
+        within = within;
+        enough = has fit (needs c i) fine.enough;
+        room = room_after i fit fine;
+        named = named n mem i e fit fine;
+        objects = mem.objects;
+      }
 
   -- the instruction at the place, for which the machine is ready
   pub any_ready : (n : ℕ) → FitsMemory c n → StandsBy c ds v → (i : Instr) × Ready c v n i
   any_ready n mem fit =
-    let a = some_at c.instrs v.state.place fit.here.within in
-    (a.0, is_ready n mem a.0 fit a.1)
+      let a = some_at c.instrs v.state.place fit.here.within in
+      (a.0, is_ready n mem a.0 fit a.1)
 
   pub moves : StandsBy c ds v → (p : ℕ) (ops ls : List ℕ) (t : ℕ) (l : Bool) → v.state.below ≤ length ops → length ls ≡ length v.state.locals → IsAt c ds p (length ops - v.state.below) (length v.state.locals - v.state.locals_below) → StandsBy c ds (record v { state = record v.state { place = p; operands = ops; locals = ls; ticks = t }; live = l })
   moves fit p ops ls t l le len at = record {
@@ -141,14 +141,14 @@ module _ (c : CodeView) (ds : List ℕ) (v : MachineView) where
 
   pub given_fits : StandsBy c ds v → (k w : ℕ) → k + v.state.below ≤ length v.state.operands → IsNext c ds v.state.place (slice_index ds v.state.place - k + 1) (v.state.place + 1) → StandsBy c ds (record v { state = given v.state k w; live = v.live })
   given_fits fit k w le x =
-    let e : slice_index ds v.state.place - k + 1 ≡ length (w ∷ drop k v.state.operands) - v.state.below = omega (arith, length-drop k v.state.operands, fit.here.operands) in
-    moves fit (v.state.place + 1) (w ∷ drop k v.state.operands) v.state.locals v.state.ticks v.live (omega (arith, length-drop k v.state.operands)) refl
+      let e : slice_index ds v.state.place - k + 1 ≡ length (w ∷ drop k v.state.operands) - v.state.below = omega (arith, length-drop k v.state.operands, fit.here.operands) in
+      moves fit (v.state.place + 1) (w ∷ drop k v.state.operands) v.state.locals v.state.ticks v.live (omega (arith, length-drop k v.state.operands)) refl
       (subst (λ d. IsAt c ds (v.state.place + 1) d (length v.state.locals - v.state.locals_below)) e (next_at fit (v.state.place + 1) _ x))
 
   spent_fits : StandsBy c ds v → (p k : ℕ) (ls : List ℕ) (t : ℕ) → length ls ≡ length v.state.locals → k + v.state.below ≤ length v.state.operands → IsNext c ds v.state.place (slice_index ds v.state.place - k + 0) p → StandsBy c ds (record v { state = record v.state { place = p; operands = drop k v.state.operands; locals = ls; ticks = t }; live = v.live })
   spent_fits fit p k ls t len le x =
-    let e : slice_index ds v.state.place - k + 0 ≡ length (drop k v.state.operands) - v.state.below = omega (arith, length-drop k v.state.operands, fit.here.operands) in
-    moves fit p (drop k v.state.operands) ls t v.live (omega (arith, length-drop k v.state.operands)) len
+      let e : slice_index ds v.state.place - k + 0 ≡ length (drop k v.state.operands) - v.state.below = omega (arith, length-drop k v.state.operands, fit.here.operands) in
+      moves fit p (drop k v.state.operands) ls t v.live (omega (arith, length-drop k v.state.operands)) len
       (subst (λ d. IsAt c ds p d (length v.state.locals - v.state.locals_below)) e (next_at fit p _ x))
 
   over_fits : StandsBy c ds v → StandsBy c ds (record v { live = false })
@@ -175,53 +175,53 @@ module _ (c : CodeView) (ds : List ℕ) (v : MachineView) where
 
   entered_fits : StandsBy c ds v → (f : ℕ) (g : Function) → slice_get c.functions f ≡ Some g → length v.state.callers < 1000 → parameters g ≤ slice_index ds v.state.place → IsNext c ds v.state.place (slice_index ds v.state.place - parameters g + 1) (v.state.place + 1) → StandsBy c ds (record v { state = entered v.state g; live = v.live })
   entered_fits fit f g e lt le x =
-    let ops = v.state.operands in
-    let p = parameters g in
-    let is = all_at (IsFunction c) c.functions f g fit.valid.functions e in
-    let level : slice_index ds (start g) ≡ 0 = all_at (λ h. slice_index ds (start h) ≡ 0) c.functions f g fit.depths.starts e in
-    let pl = is.parameters in
-    let args = reverse (take p ops) ++ replicate (locals g - p) 0 in
-    let enough = has fit p le in
-    let la : length args ≡ locals g = grind (arith, common_steps) in
-    let ld = length-drop p ops in
-    let ll = length-append v.state.locals args in
-    let ed : slice_index ds (start g) ≡ length (drop p ops) - (length ops - p) = omega arith in
-    let el : locals_at c (start g) ≡ length (v.state.locals ++ args) - length v.state.locals = locals_start c f g fit.valid e ∙ omega arith in
-    let d = fit.here.operands in
-    let eb : slice_index ds v.state.place - p + 1 ≡ length ops - p - v.state.below + 1 = omega arith in
-    record {
-      valid = fit.valid;
-      depths = fit.depths;
-      below = omega arith;
-      locals_below = omega arith;
-      here = record { within = is.within; operands = ed; locals = el };
-      callers = (omega arith, fit.locals_below, subst (λ d. IsAt c ds (v.state.place + 1) d (length v.state.locals - v.state.locals_below)) eb (next_at fit (v.state.place + 1) _ x), fit.callers);
-      calls = lt;
-      operand_room = fit.operand_room;
-      local_room = fit.local_room;
-    }
+      let ops = v.state.operands in
+      let p = parameters g in
+      let is = all_at (IsFunction c) c.functions f g fit.valid.functions e in
+      let level : slice_index ds (start g) ≡ 0 = all_at (λ h. slice_index ds (start h) ≡ 0) c.functions f g fit.depths.starts e in
+      let pl = is.parameters in
+      let args = reverse (take p ops) ++ replicate (locals g - p) 0 in
+      let enough = has fit p le in
+      let la : length args ≡ locals g = grind (arith, common_steps) in
+      let ld = length-drop p ops in
+      let ll = length-append v.state.locals args in
+      let ed : slice_index ds (start g) ≡ length (drop p ops) - (length ops - p) = omega arith in
+      let el : locals_at c (start g) ≡ length (v.state.locals ++ args) - length v.state.locals = locals_start c f g fit.valid e ∙ omega arith in
+      let d = fit.here.operands in
+      let eb : slice_index ds v.state.place - p + 1 ≡ length ops - p - v.state.below + 1 = omega arith in
+      record {
+        valid = fit.valid;
+        depths = fit.depths;
+        below = omega arith;
+        locals_below = omega arith;
+        here = record { within = is.within; operands = ed; locals = el };
+        callers = (omega arith, fit.locals_below, subst (λ d. IsAt c ds (v.state.place + 1) d (length v.state.locals - v.state.locals_below)) eb (next_at fit (v.state.place + 1) _ x), fit.callers);
+        calls = lt;
+        operand_room = fit.operand_room;
+        local_room = fit.local_room;
+      }
 
   returned_fits : StandsBy c ds v → (m : List ℕ) (ks : List Caller) → CallersStand c ds ks v.state.below v.state.locals_below → length ks ≤ 1000 → StandsBy c ds (after_done v (returned v.state m ks))
   returned_fits fit m [] h le = over_fits fit
   returned_fits fit m (k ∷ ks) h le =
-    let ops = v.state.operands in
-    let rest = drop (length ops - v.state.below) ops in
-    let ld = length-drop (length ops - v.state.below) ops in
-    let fb = fit.below in let fl = fit.locals_below in let kb = h.0 in let kl = h.1 in
-    let lt : length (take v.state.locals_below v.state.locals) ≡ v.state.locals_below = length-take-le v.state.locals_below v.state.locals fl in
-    let ed : v.state.below - k.below + 1 ≡ suc (length rest) - k.below = omega arith in
-    let el : v.state.locals_below - k.locals_below ≡ length (take v.state.locals_below v.state.locals) - k.locals_below = ap (λ i. i - k.locals_below) (sym lt) in
-    record {
-      valid = fit.valid;
-      depths = fit.depths;
-      below = omega arith;
-      locals_below = omega arith;
-      here = subst (λ l. IsAt c ds k.place (suc (length rest) - k.below) l) el (subst (λ d. IsAt c ds k.place d (v.state.locals_below - k.locals_below)) ed h.2);
-      callers = h.3;
-      calls = omega arith;
-      operand_room = fit.operand_room;
-      local_room = fit.local_room;
-    }
+      let ops = v.state.operands in
+      let rest = drop (length ops - v.state.below) ops in
+      let ld = length-drop (length ops - v.state.below) ops in
+      let fb = fit.below in let fl = fit.locals_below in let kb = h.0 in let kl = h.1 in
+      let lt : length (take v.state.locals_below v.state.locals) ≡ v.state.locals_below = length-take-le v.state.locals_below v.state.locals fl in
+      let ed : v.state.below - k.below + 1 ≡ suc (length rest) - k.below = omega arith in
+      let el : v.state.locals_below - k.locals_below ≡ length (take v.state.locals_below v.state.locals) - k.locals_below = ap (λ i. i - k.locals_below) (sym lt) in
+      record {
+        valid = fit.valid;
+        depths = fit.depths;
+        below = omega arith;
+        locals_below = omega arith;
+        here = subst (λ l. IsAt c ds k.place (suc (length rest) - k.below) l) el (subst (λ d. IsAt c ds k.place d (v.state.locals_below - k.locals_below)) ed h.2);
+        callers = h.3;
+        calls = omega arith;
+        operand_room = fit.operand_room;
+        local_room = fit.local_room;
+      }
 
   called_fits : StandsBy c ds v → (m : List ℕ) (f : ℕ) → Here (Call f) → (o : Option Function) → slice_get c.functions f ≡ o → StandsBy c ds (after_done v (called v.state m o))
   called_fits fit m f fine None e = over_fits fit
@@ -229,9 +229,9 @@ module _ (c : CodeView) (ds : List ℕ) (v : MachineView) where
     where
       by_test : (b : Bool) → nat_lt (length v.state.callers) 1000 ≡ b → StandsBy c ds (after_done v (cond b (ran (entered v.state g) m) (trapped v.state m Rattle.ckpt_base.specs.declared.trap.Trap.TheVariants.TooManyCalls)))
       by_test true q =
-        let le : parameters g ≤ slice_index ds v.state.place = subst (λ o. parameters_of o ≤ slice_index ds v.state.place) e fine.enough in
-        let x = subst (λ o. IsNext c ds v.state.place (slice_index ds v.state.place - parameters_of o + 1) (v.state.place + 1)) e fine.next in
-        entered_fits fit f g e (is_below (length v.state.callers) 1000 q) le x
+          let le : parameters g ≤ slice_index ds v.state.place = subst (λ o. parameters_of o ≤ slice_index ds v.state.place) e fine.enough in
+          let x = subst (λ o. IsNext c ds v.state.place (slice_index ds v.state.place - parameters_of o + 1) (v.state.place + 1)) e fine.next in
+          entered_fits fit f g e (is_below (length v.state.callers) 1000 q) le x
       by_test false q = over_fits fit
 
   kept : (protected : ℕ → Bool) (m : List ℕ) (i : Instr) → StandsBy c ds v → Here i → StandsBy c ds (after_done v (row c protected v.state m i))
@@ -268,11 +268,11 @@ module _ (c : CodeView) (ds : List ℕ) (v : MachineView) where
   kept protected m Test fit fine = given_fits fit 1 _ (has fit _ fine.enough) fine.next
   kept protected m (Jump t) fit fine = let b = fit.below in spent_fits fit t 0 v.state.locals v.state.ticks refl (omega arith) fine.next
   kept protected m (JumpZ t) fit fine =
-    let next : Bool → MachineView = λ b. record v { state = record v.state { place = cond b (v.state.place + 1) t; operands = drop 1 v.state.operands }; live = v.live } in
-    let le = has fit 1 fine.enough in
-    let both : (b : Bool) → StandsBy c ds (next b) =
+      let next : Bool → MachineView = λ b. record v { state = record v.state { place = cond b (v.state.place + 1) t; operands = drop 1 v.state.operands }; live = v.live } in
+      let le = has fit 1 fine.enough in
+      let both : (b : Bool) → StandsBy c ds (next b) =
       λ b. elim b as (λ b. StandsBy c ds (next b)) [ true ↦ spent_fits fit (v.state.place + 1) 1 v.state.locals v.state.ticks refl le fine.next.1 | false ↦ spent_fits fit t 1 v.state.locals v.state.ticks refl le fine.next.0 ] in
-    both (word_holds (top v.state 0))
+      both (word_holds (top v.state 0))
   kept protected m (Call f) fit fine = called_fits fit m f fine (slice_get c.functions f) refl
   kept protected m Ret fit fine = returned_fits fit m v.state.callers fit.callers fit.calls
   kept protected m Drop fit fine = spent_fits fit (v.state.place + 1) 1 v.state.locals v.state.ticks refl (has fit _ fine.enough) fine.next
@@ -281,10 +281,10 @@ module _ (c : CodeView) (ds : List ℕ) (v : MachineView) where
   kept protected m (Ckpt k) fit fine = spent_fits fit (v.state.place + 1) 0 v.state.locals v.state.ticks refl (has fit _ fine.enough) fine.next
   kept protected m (Excl k) fit fine = spent_fits fit (v.state.place + 1) 0 v.state.locals v.state.ticks refl (has fit _ fine.enough) fine.next
   kept protected m (OutN k) fit fine =
-    let h = fine.enough in let b = fit.below in
-    let d = slice_index ds v.state.place in
-    let e : d - (k + 1) + (k + 1) ≡ d - 0 + 0 = omega arith in
-    spent_fits fit (v.state.place + 1) 0 v.state.locals v.state.ticks refl (omega arith) (subst (λ i. IsNext c ds v.state.place i (v.state.place + 1)) e fine.next)
+      let h = fine.enough in let b = fit.below in
+      let d = slice_index ds v.state.place in
+      let e : d - (k + 1) + (k + 1) ≡ d - 0 + 0 = omega arith in
+      spent_fits fit (v.state.place + 1) 0 v.state.locals v.state.ticks refl (omega arith) (subst (λ i. IsNext c ds v.state.place i (v.state.place + 1)) e fine.next)
   kept protected m In fit fine = fit
 
   -- what a row leaves

@@ -9,12 +9,12 @@
 //! memory, and `falls`, that each comes nearer to a tick.
 #![tactic(auto)]
 
-
 mod machine;
 mod pointer;
 mod stack;
 mod steps;
-
+#[cfg(test)]
+mod tests;
 
 pub use machine::Machine;
 pub use machine_code::Event;

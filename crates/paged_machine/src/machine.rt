@@ -122,6 +122,8 @@ impl Machine {
         ensures size { length frames.new ≡ length frames.old }
         ensures spared { (cell : ℕ) → is_protected pages.now (cell / 512) ≡ true → slice_index frames.new cell ≡ slice_index frames.old cell }
         ensures reaches { (w : World) (input : List ℕ) (events : List run.Event) → Reaches code.now w (world self.old.state frames.old input events) → Reaches code.now w (world self.new.state frames.new input (events ++ (next_row code.now (is_protected pages.now) self.old.state frames.old).shown)) }
+        ensures asked { result ≡ Event.WantsInput → slice_get code.now.instrs self.new.state.place ≡ Some Instr.In }
+        ensures fault { (p : ℕ) → result ≡ Event.WriteFault p → (p < length pages.now.dirty) × (is_protected pages.now p ≡ true) }
         ensures falls { Falls code.now self.old.state result self.new.state }
         ensures limited { rank code.now self.new.state ≤ rank_limit code.now }
     {
@@ -152,6 +154,7 @@ impl Machine {
     }
 
     /// How many ticks were taken.
+    #[inline(always)]
     pub fn ticks(&self) -> u64
         ensures answer { result ≡ self.now.state.ticks }
     {
@@ -159,6 +162,7 @@ impl Machine {
     }
 
     /// Whether the machine has neither ended nor trapped.
+    #[inline(always)]
     pub fn is_live(&self) -> bool
         ensures answer { result ≡ self.now.live }
     {
@@ -407,9 +411,11 @@ impl Machine {
         ensures event { result ≡ Event.Ran }
     {
         let holds = word::holds(self.word(0));
-        self.operands.cut(1);
-        self.place = if holds { self.place + 1 } else { t as usize };
-        Event::Ran
+        let event = self.spend(1, Event::Ran);
+        if !holds {
+            self.place = t as usize;
+        }
+        event
     }
 
     /// Stands before a place with no call active and no operands.

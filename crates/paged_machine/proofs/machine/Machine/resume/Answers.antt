@@ -12,6 +12,8 @@ returns-in-Some-clause-state c = λ q e.
 pub returns-in-Some-clause-stands : goal.returns-in-Some-clause-stands
 returns-in-Some-clause-stands c =
     let fit = c.requires.stands.1 in
-    let ds = c.requires.stands.0 in
-    (ds, subst (StandsBy c.args.code.now ds) (sym c.stand_at.ensures)
-      (standing_fits c.args.code.now ds _ c.args.ticks _ _ _ fit.valid fit.depths (at_checkpoint c.args.code.now ds c.args.node _ fit.valid fit.depths c.in-Some.ensures.found) fit.operand_room fit.local_room))
+    let ds = c.requires.stands.0 in (
+      ds,
+      subst (StandsBy c.args.code.now ds) (sym c.stand_at.ensures)
+          (standing_fits c.args.code.now ds _ c.args.ticks _ _ _ fit.valid fit.depths (at_checkpoint c.args.code.now ds c.args.node _ fit.valid fit.depths c.in-Some.ensures.found) fit.operand_room fit.local_room),
+    )

@@ -1,5 +1,8 @@
-use Rattle.std.proofs.Common.{◌≡◌, ℕ, Bool, length, true, sym, ap, ◌∙◌, subst}
-use Rattle.std.specs.Prelude.{slice_index}
+use Rattle.std.proofs.Common.{◌≡◌, ℕ, ◌<◌, Bool, length, true, sym, ap, ◌∙◌, subst}
+use Rattle.std.specs.Prelude.{slice_index, slice_get, Some}
+use Rattle.machine_code.specs.declared.instr.Instr.TheVariants.{In}
+use Rattle.machine_code.specs.State.{State}
+use Rattle.paged_machine.proofs.Tells.{Tells, row_tells, is_there}
 use Rattle.dirty_pages.specs.Pages.{is_protected}
 use Rattle.machine_code.specs.Row.{Done, row}
 use Rattle.paged_machine.specs.MachineView.{MachineView, live_after, after_done}
@@ -34,6 +37,8 @@ returns g c =
     let state = ap (λ (w : MachineView). w.state) machine in
     let next_state = state ∙ ap (λ (d : Done). d.state) is in
     let next_memory = memory ∙ ap (λ (d : Done). d.memory) is in
+    let fall = subst (λ e. Falls code v.state e c.act.new.self.state) (sym event) (subst (Falls code v.state _) (sym state) (falls code v.state ds protected m i fit.here.within (stands_there code ds v.state.place i fit.depths at))) in
+    let tells : Tells protected i c.act.result = subst (Tells protected i) (sym event) (row_tells code protected v.state m i) in
     record {
       state = next_state;
       memory = next_memory;
@@ -44,6 +49,11 @@ returns g c =
       size = ap length memory ∙ spares.size;
       spared = λ cell p. ap (λ n. slice_index n cell) memory ∙ spares.spared cell p;
       reaches = reaches_next code protected v.state m i c.act.new.self.state c.act.new.frames at next_state next_memory;
-      falls = subst (λ e. Falls code v.state e c.act.new.self.state) (sym event) (subst (Falls code v.state _) (sym state) (falls code v.state ds protected m i fit.here.within (stands_there code ds v.state.place i fit.depths at)));
+      asked = λ e.
+          let still : c.act.new.self.state ≡ v.state = subst (λ k. Falls code v.state k c.act.new.self.state) e fall in
+          let is_in : i ≡ In = subst (Tells protected i) e tells in
+          ap (λ (t : State). slice_get code.instrs t.place) still ∙ at ∙ ap Some is_in;
+      fault = λ p e. let on : protected p ≡ true = subst (Tells protected i) e tells in (is_there c.args.pages.now p on, on);
+      falls = fall;
       limited = limited code c.act.new.self.state stands.calls;
     }

@@ -1,0 +1,211 @@
+"""The driver of the bench, a program in Rattle with its proof: `files(code)` answers its files by path."""
+
+HEAD = """// Runs a job on the machine, one tick a call.
+#![tactic(auto)]
+
+ghost use Rattle.std.specs.Prelude.{◌≡◌, ℕ, ◌+◌, ◌*◌, ◌^◌, ◌<◌, ◌≤◌, ◌-◌, length, slice_get, Some, true, false};
+ghost use Rattle.machine_code.specs.declared.instr.Instr.{Instr};
+ghost use Rattle.dirty_pages.specs.Pages.{in_snapshot};
+ghost use Rattle.paged_machine.specs.Standing.{StandsIn};
+ghost use Rattle.paged_machine.specs.Fitting.{FitTogether};
+
+mod program;
+
+use ckpt_base::{Ending, NoMemory};
+use dirty_pages::Pages;
+use machine_code::{Code, Event, Instr};
+use page_frames::Frames;
+use paged_machine::{Machine, Steps};
+use std::alloc::{AllocError, Global};
+use std::io;
+use std::marker::Brand;
+use std::sync::ledger::{Blank, Ledger};
+
+/// Whether the machine stands at a tick that would pass the bound.
+#[inline(always)]
+fn must_stop(machine: &Machine, code: &Code, until: u64) -> bool
+    requires { StandsIn code.now machine.now }
+    ensures { result ≡ false → slice_get code.now.instrs machine.now.state.place ≡ Some Instr.Tick → machine.now.state.ticks < 2 ^ 64 - 1 }
+{
+    if !machine.at_tick(code) {
+        return false;
+    }
+    machine.ticks() >= until
+}
+
+/// Runs a machine until it ends or stands at a tick that would pass the bound.
+fn go<L: Ledger>(
+    until: u64,
+    code: &Code,
+    machine: &mut Machine,
+    frames: &mut Frames,
+    pages: &mut Pages,
+    steps: &mut Steps<L>,
+) -> Ending
+    requires stands { StandsIn code.now machine.old }
+    requires fit { FitTogether code.now frames.old pages.old }
+    requires clear { (p : ℕ) → in_snapshot pages.old p ≡ false }
+    ensures stands { StandsIn code.now machine.new }
+    ensures fit { FitTogether code.now frames.new pages.new }
+    ensures clear { (p : ℕ) → in_snapshot pages.new p ≡ false }
+{
+    for _ in 0..u64::MAX {
+        if !machine.is_live() {
+            return Ending::Trapped(0);
+        }
+        if must_stop(machine, code, until) {
+            return Ending::Going;
+        }
+        match machine.step(code, frames, pages, steps) {
+            Event::WriteFault(p) => pages.serve_fault(p),
+            Event::Ended(v) => return Ending::Ended(v),
+            Event::Trapped(t) => return Ending::Trapped(t),
+            Event::WantsInput => return Ending::Going,
+            _ => {}
+        }
+    }
+    Ending::Going
+}
+
+/// Runs a machine to its end, one tick a call, and answers the ticks.
+fn drive<L: Ledger>(
+    code: &Code,
+    machine: &mut Machine,
+    frames: &mut Frames,
+    pages: &mut Pages,
+    steps: &mut Steps<L>,
+) -> u64
+    requires stands { StandsIn code.now machine.old }
+    requires fit { FitTogether code.now frames.old pages.old }
+    requires clear { (p : ℕ) → in_snapshot pages.old p ≡ false }
+{
+    for k in 0..1_000_000_000_000u64 {
+        match go(k + 1, code, machine, frames, pages, steps) {
+            Ending::Going => {}
+            _ => return machine.ticks(),
+        }
+    }
+    machine.ticks()
+}
+
+fn job_code(alloc: Global) -> Result<Code, AllocError> {
+    let instrs = Vec::from_slice(alloc, &program::CODE)?;
+    let objects = vec![in alloc; (0, 65536), (65536, 65536)]?;
+    let checkpoints = vec![in alloc; (0, CHECKPOINT)]?;
+    Ok(Code::of(instrs, Vec::new(alloc), objects, checkpoints, 5))
+}
+
+/// The ticks of the job, or None where the code is not valid.
+fn job<L: Ledger>(alloc: Global, blank: Blank) -> Result<Option<u64>, NoMemory>
+    requires name { blank.name ≡ L.name }
+    requires parts { blank.parts ≡ L.parts }
+    requires some { 0 < blank.parts }
+{
+    let code = job_code(alloc)?;
+    let mut frames = Frames::new(alloc, 513, 0)?;
+    let mut pages = Pages::new(alloc, 513)?;
+    if !code.fits(513 * 512) {
+        return Ok(None);
+    }
+    if !code.is_valid(alloc)? {
+        return Ok(None);
+    }
+    let mut machine = Machine::new(alloc, &code)?;
+    let mut steps = Steps::<L>::new(blank);
+    Ok(Some(drive(&code, &mut machine, &mut frames, &mut pages, &mut steps)))
+}
+
+fn main(rt: HostRuntime) -> io::Result<()> {
+    match job::<Brand>(rt.alloc(), Blank::new(1)) {
+        Err(_) => println!(rt; "no memory"),
+        Ok(None) => println!(rt; "not valid"),
+        Ok(Some(ticks)) => println!(rt; "ticks {ticks}"),
+    }
+}
+"""
+
+PROOFS = {
+    "proofs/Lib.antt": "pub mod Kept\n",
+    "proofs/Kept.antt": """use Rattle.std.proofs.Common.{◌≡◌, ◌*◌, ℕ, List, length, replicate, sym, ap, ◌∙◌, subst, true, false, get_or, zero, suc, refl, arith}
+use Rattle.std.proofs.lemmas.List.{length-set}
+use Rattle.dirty_pages.specs.Pages.{PageStates, served, in_snapshot}
+use Rattle.machine_code.specs.CodeView.{CodeView}
+use Rattle.machine_code.specs.Memory.{FitsMemory}
+use Rattle.paged_machine.specs.Fitting.{FitTogether}
+
+pub after_step : (c : CodeView) (m n : List ℕ) (pages : PageStates) → length n ≡ length m → FitTogether c m pages → FitTogether c n pages
+after_step c m n pages e fit = record { same = e ∙ fit.same; few = fit.few; cells = subst (FitsMemory c) (sym e) fit.cells }
+
+pub after_serve : (c : CodeView) (m : List ℕ) (old new : PageStates) (p : ℕ) → new ≡ served old p → FitTogether c m old → FitTogether c m new
+after_serve c m old new p e fit =
+    let l : length new.dirty ≡ length old.dirty = ap (λ (s : PageStates). length s.dirty) e ∙ length-set old.dirty p true in
+    record { same = omega (arith, fit.same); few = omega (arith, fit.few); cells = fit.cells }
+
+pub still_clear : (old new : PageStates) (p : ℕ) → new ≡ served old p → ((q : ℕ) → in_snapshot old q ≡ false) → (q : ℕ) → in_snapshot new q ≡ false
+still_clear old new p e clear q = ap (λ (s : PageStates). in_snapshot s q) e ∙ clear q
+
+pub fresh_clear : (n q : ℕ) → get_or (replicate n false) q false ≡ false
+fresh_clear zero q = refl
+fresh_clear (suc n) zero = refl
+fresh_clear (suc n) (suc q) = fresh_clear n q
+""",
+    "proofs/go/Invariants.antt": """use Rattle.std.proofs.Common.{◌≡◌, ℕ, false}
+use Rattle.dirty_pages.specs.Pages.{in_snapshot}
+use Rattle.paged_machine.specs.Standing.{StandsIn}
+use Rattle.paged_machine.specs.Fitting.{FitTogether}
+use Rattle.drive.proofs.go.Given as goal
+
+abbrev pub invariant-loop : goal.invariant-loop
+invariant-loop g l = record {
+  stands : StandsIn l.code l.machine;
+  fit : FitTogether l.code l.frames l.pages;
+  clear : (p : ℕ) → in_snapshot l.pages p ≡ false;
+}
+""",
+    "proofs/drive/Invariants.antt": """use Rattle.std.proofs.Common.{◌≡◌, ℕ, false}
+use Rattle.dirty_pages.specs.Pages.{in_snapshot}
+use Rattle.paged_machine.specs.Standing.{StandsIn}
+use Rattle.paged_machine.specs.Fitting.{FitTogether}
+use Rattle.drive.proofs.drive.Given as goal
+
+abbrev pub invariant-loop-k : goal.invariant-loop-k
+invariant-loop-k g l = record {
+  stands : StandsIn l.code l.machine;
+  fit : FitTogether l.code l.frames l.pages;
+  clear : (p : ℕ) → in_snapshot l.pages p ≡ false;
+}
+""",
+    "proofs/job/Answers.antt": """use Rattle.std.proofs.Common.{◌≡◌, ◌*◌, ℕ, List, length, replicate, true, false, sym, ap, ◌∙◌, subst, arith}
+use Rattle.std.proofs.lemmas.List.{length-replicate}
+use Rattle.dirty_pages.specs.Pages.{PageStates, fresh, in_snapshot}
+use Rattle.machine_code.specs.Memory.{FitsMemory}
+use Rattle.page_frames.specs.Words.{fill_word}
+use Rattle.drive.proofs.Kept.{fresh_clear}
+use Rattle.drive.proofs.job.Goals as goal
+
+pub drive-requires-clause-fit : goal.drive-requires-clause-fit
+drive-requires-clause-fit g c =
+    let cells : length c.in_ok-frames.frames ≡ 262656 = ap length c.in_ok-frames.ensures.answer ∙ length-replicate 262656 (fill_word 0) in
+    let pages : length c.in_ok-pages.pages.dirty ≡ 513 = ap (λ (s : PageStates). length s.dirty) c.in_ok-pages.ensures.answer ∙ length-replicate 513 true in
+    record { same = omega arith; few = omega arith; cells = subst (FitsMemory c.in_ok-code.code) (sym cells) (c.fits.ensures.answer.0 c.if-not-fits.false) }
+
+pub drive-requires-clause-clear : goal.drive-requires-clause-clear
+drive-requires-clause-clear g c = λ p. ap (λ s. in_snapshot s p) c.in_ok-pages.ensures.answer ∙ fresh_clear 513 p
+""",
+    "proofs/main/Invariants.antt": """use Rattle.drive.proofs.main.Given as goal
+
+abbrev pub ghosts-job : goal.ghosts-job
+ghosts-job a = record { name = a.blank.name; parts = a.blank.parts }
+""",
+}
+
+
+def instruction(name, operand):
+    return "    Instr::%s,\n" % (name if operand is None else "%s(%d)" % (name, operand))
+
+
+def files(code):
+    checkpoint = [place + 1 for place, (name, _) in enumerate(code) if name == "Ckpt"][0]
+    job = "// The code of the job.\n\nuse machine_code::Instr;\n\npub static CODE: [Instr; %d] = [\n" % len(code)
+    job += "".join(instruction(name, operand) for name, operand in code) + "];\n"
+    return {"src/main.rt": HEAD.replace("CHECKPOINT", str(checkpoint)), "src/program.rt": job, **PROOFS}

@@ -1,0 +1,87 @@
+#!/usr/bin/env python3
+"""Times the machine against a switch interpreter in C on the same code, and prints the ratio of their times.
+
+It copies the machine's crates into a folder of its own, writes a driver beside them that calls `Machine::step` in a plain loop, one tick a call as the
+run of a program does, lets `rt run` prove and build it, builds the C interpreter with gcc -O2, and runs the two in turn. Usage: bench/machine.py [FOLDER]
+"""
+
+import os
+import resource
+import shutil
+import subprocess
+import sys
+import tempfile
+
+HERE = os.path.dirname(os.path.abspath(__file__))
+CRATES = os.path.join(HERE, "..", "crates")
+sys.path.insert(0, HERE)
+import driver
+import stencil
+
+LIBRARIES = {
+    "ckpt_base": "thiserror",
+    "machine_code": "ckpt_base",
+    "page_frames": "ckpt_base",
+    "dirty_pages": "ckpt_base bitflags",
+    "paged_machine": "ckpt_base machine_code page_frames dirty_pages",
+    "drive": "ckpt_base machine_code page_frames dirty_pages paged_machine",
+}
+NAMES = (
+    "Tick Num Addr LoadC StoreC LoadL StoreL Move Back Fetch Put Add Sub Mul Div Rem Shl Shr And Or Xor "
+    "Neg Not Inv Test Eq Ne Lt Le Gt Ge Jump JumpZ Call Ret Drop OutC OutB OutN In Ckpt Excl"
+).split()
+
+
+def write(path, text):
+    os.makedirs(os.path.dirname(path), exist_ok=True)
+    with open(path, "w") as f:
+        f.write(text)
+
+
+def c_code(code):
+    lines = ["enum {" + ",".join("I_" + n for n in NAMES) + "};", "static const struct ins CODE[]={"]
+    lines += ["{I_%s,%d}," % (name, operand or 0) for name, operand in code]
+    return "\n".join(lines + ["};"]) + "\n"
+
+
+def build_c(folder, code):
+    write(os.path.join(folder, "c", "code.h"), c_code(code))
+    out = os.path.join(folder, "c", "interpreter")
+    subprocess.check_call(["gcc", "-O2", "-I", os.path.join(folder, "c"), "-o", out, os.path.join(HERE, "interpreter.c")])
+    return out
+
+
+def build_rattle(folder, code):
+    top = os.path.join(folder, "rattle")
+    for name in LIBRARIES:
+        if name != "drive":
+            shutil.copytree(os.path.join(CRATES, name), os.path.join(top, "crates", name), ignore=shutil.ignore_patterns("out", "must-fail"))
+    write(os.path.join(top, "crates.txt"), "".join("%s: %s\n" % pair for pair in LIBRARIES.items()))
+    for path, text in driver.files(code).items():
+        write(os.path.join(top, "crates", "drive", path), text)
+    subprocess.check_call(["rt", "run", "--jobs", "2"], cwd=os.path.join(top, "crates", "drive"))
+    return os.path.join(top, "crates", "drive", "out", "drive")
+
+
+def seconds(program):
+    before = resource.getrusage(resource.RUSAGE_CHILDREN).ru_utime
+    text = subprocess.run([program], check=True, capture_output=True, text=True).stdout
+    return resource.getrusage(resource.RUSAGE_CHILDREN).ru_utime - before, text.strip().split("\n")[-1]
+
+
+def main():
+    folder = sys.argv[1] if len(sys.argv) > 1 else tempfile.mkdtemp(prefix="machine-bench-")
+    code = stencil.instructions()
+    programs = {"C, gcc -O2": build_c(folder, code), "machine": build_rattle(folder, code)}
+    times = {name: [] for name in programs}
+    for _ in range(7):
+        for name, program in programs.items():
+            t, last = seconds(program)
+            times[name].append(t)
+            print("%-12s %.3f s  %s" % (name, t, last))
+    best = {name: min(ts) for name, ts in times.items()}
+    print("least: " + ", ".join("%s %.3f s" % pair for pair in best.items()))
+    print("ratio: %.2f" % (best["machine"] / best["C, gcc -O2"]))
+
+
+main()
