@@ -5,6 +5,7 @@ HEAD = """// Runs a job on the machine, one tick a call.
 
 ghost use Rattle.std.specs.Prelude.{◌≡◌, ℕ, ◌+◌, ◌*◌, ◌^◌, ◌<◌, ◌≤◌, ◌-◌, length, slice_get, Some, true, false};
 ghost use Rattle.machine_code.specs.declared.instr.Instr.{Instr};
+ghost use Rattle.ckpt_base.specs.declared.ending.Ending.{Ending};
 ghost use Rattle.dirty_pages.specs.Pages.{in_snapshot};
 ghost use Rattle.paged_machine.specs.Standing.{StandsIn};
 ghost use Rattle.paged_machine.specs.Fitting.{FitTogether};
@@ -45,23 +46,27 @@ fn go<L: Ledger>(
     requires stands { StandsIn code.now machine.old }
     requires fit { FitTogether code.now frames.old pages.old }
     requires clear { (p : ℕ) → in_snapshot pages.old p ≡ false }
+    requires live { machine.old.live ≡ true }
+    ensures live { result ≡ Ending.Going → machine.new.live ≡ true }
     ensures stands { StandsIn code.now machine.new }
     ensures fit { FitTogether code.now frames.new pages.new }
     ensures clear { (p : ℕ) → in_snapshot pages.new p ≡ false }
 {
     for _ in 0..u64::MAX {
-        if !machine.is_live() {
-            return Ending::Trapped(0);
-        }
         if must_stop(machine, code, until) {
             return Ending::Going;
         }
         match machine.step(code, frames, pages, steps) {
-            Event::WriteFault(p) => pages.serve_fault(p),
-            Event::Ended(v) => return Ending::Ended(v),
-            Event::Trapped(t) => return Ending::Trapped(t),
-            Event::WantsInput => return Ending::Going,
-            _ => {}
+            Event::Ran => {}
+            Event::Ticked => {}
+            event => {
+                if let Event::WriteFault(p) = event {
+                    pages.serve_fault(p);
+                }
+                if !machine.is_live() {
+                    return Ending::Trapped(0);
+                }
+            }
         }
     }
     Ending::Going
@@ -78,6 +83,7 @@ fn drive<L: Ledger>(
     requires stands { StandsIn code.now machine.old }
     requires fit { FitTogether code.now frames.old pages.old }
     requires clear { (p : ℕ) → in_snapshot pages.old p ≡ false }
+    requires live { machine.old.live ≡ true }
 {
     for k in 0..1_000_000_000_000u64 {
         match go(k + 1, code, machine, frames, pages, steps) {
@@ -149,7 +155,7 @@ fresh_clear zero q = refl
 fresh_clear (suc n) zero = refl
 fresh_clear (suc n) (suc q) = fresh_clear n q
 """,
-    "proofs/go/Invariants.antt": """use Rattle.std.proofs.Common.{◌≡◌, ℕ, false}
+    "proofs/go/Invariants.antt": """use Rattle.std.proofs.Common.{◌≡◌, ℕ, false, true}
 use Rattle.dirty_pages.specs.Pages.{in_snapshot}
 use Rattle.paged_machine.specs.Standing.{StandsIn}
 use Rattle.paged_machine.specs.Fitting.{FitTogether}
@@ -160,9 +166,10 @@ invariant-loop g l = record {
   stands : StandsIn l.code l.machine;
   fit : FitTogether l.code l.frames l.pages;
   clear : (p : ℕ) → in_snapshot l.pages p ≡ false;
+  live : l.machine.live ≡ true;
 }
 """,
-    "proofs/drive/Invariants.antt": """use Rattle.std.proofs.Common.{◌≡◌, ℕ, false}
+    "proofs/drive/Invariants.antt": """use Rattle.std.proofs.Common.{◌≡◌, ℕ, false, true}
 use Rattle.dirty_pages.specs.Pages.{in_snapshot}
 use Rattle.paged_machine.specs.Standing.{StandsIn}
 use Rattle.paged_machine.specs.Fitting.{FitTogether}
@@ -173,6 +180,7 @@ invariant-loop-k g l = record {
   stands : StandsIn l.code l.machine;
   fit : FitTogether l.code l.frames l.pages;
   clear : (p : ℕ) → in_snapshot l.pages p ≡ false;
+  live : l.machine.live ≡ true;
 }
 """,
     "proofs/job/Answers.antt": """use Rattle.std.proofs.Common.{◌≡◌, ◌*◌, ℕ, List, length, replicate, true, false, sym, ap, ◌∙◌, subst, arith}

@@ -1,14 +1,13 @@
 -- Where a machine stands that begins, or that goes on after a checkpoint.
-use Rattle.std.proofs.Common.{◌≡◌, ◌≢◌, ℕ, zero, suc, ◌+◌, ◌-◌, ◌*◌, ◌<◌, ◌≤◌, List, [], ◌∷◌, length, get_or, Some, Bool, true, false, ◌==◌, refl, sym, ap, ◌∙◌, subst, arith, ⊎_elim}
-use Rattle.std.specs.Prelude.{slice_get, slice_index, ◌&&◌, ◌||◌, map}
-use Rattle.std.specs.List.{list_any, All}
+use Rattle.std.proofs.Common.{◌≡◌, ◌≢◌, ℕ, zero, suc, ◌+◌, ◌-◌, ◌*◌, ◌<◌, ◌≤◌, List, [], ◌∷◌, length, get_or, Bool, true, false, ◌==◌, refl, sym, ap, ◌∙◌, subst, arith, ⊎_elim}
+use Rattle.std.specs.Prelude.{slice_index, ◌&&◌, ◌||◌, map}
+use Rattle.std.specs.List.{list_any}
 use Rattle.std.proofs.lemmas.Bool.{cases_lt}
 use Rattle.std.proofs.lemmas.Bool.Decides.{nat_tests}
 use Rattle.machine_code.specs.declared.instr.Instr.TheVariants.{Ckpt}
-use Rattle.machine_code.specs.CodeView.{CodeView, Checkpoint, node, place_after, locals_at, most_locals, home}
-use Rattle.machine_code.specs.Valid.{IsValid, AreDepths, IsEntry, has_checkpoint, IsNewAt, AreDistinct}
+use Rattle.machine_code.specs.CodeView.{CodeView, Checkpoint, node, place_after, most_locals}
+use Rattle.machine_code.specs.Valid.{IsValid, AreDepths, has_checkpoint, IsNewAt, AreDistinct}
 use Rattle.machine_code.specs.State.{standing}
-use Rattle.paged_machine.specs.MachineView.{MachineView}
 use Rattle.paged_machine.specs.Standing.{IsAt, StandsBy}
 use Rattle.paged_machine.proofs.Homes.{locals_main, home_main}
 use Rattle.paged_machine.proofs.Stays.{stands_there}

@@ -1,12 +1,12 @@
 -- What a row does to memory.
-use Rattle.std.proofs.Common.{◌≡◌, ◌≢◌, ℕ, ◌/◌, List, [], ◌∷◌, length, Result, Ok, Err, Bool, true, false, cond, Option, Some, None, refl, sym, ap, ◌∙◌}
-use Rattle.std.specs.Prelude.{slice_get, slice_set, slice_index, nat_lt}
+use Rattle.std.proofs.Common.{◌≡◌, ℕ, ◌/◌, List, [], ◌∷◌, length, Result, Ok, Err, Bool, true, false, cond, Option, Some, None, refl, sym, ap, ◌∙◌}
+use Rattle.std.specs.Prelude.{slice_set, slice_index, nat_lt}
 use Rattle.std.proofs.lemmas.List.{get_or-set_other, length-set}
 use Rattle.ckpt_base.specs.declared.trap.Trap.{Trap}
 use Rattle.ckpt_base.specs.declared.trap.Trap.TheVariants.{TooManyCalls}
 use Rattle.ckpt_base.specs.Event as run
 use Rattle.machine_code.specs.declared.instr.Instr.{Instr}
-use Rattle.machine_code.specs.declared.instr.Instr.TheVariants.{Tick, Num, Addr, LoadC, StoreC, LoadL, StoreL, Move, Back, Fetch, Put, Add, Sub, Mul, Div, Rem, Shl, Shr, And, Or, Xor, Neg, Not, Inv, Test, Eq, Ne, Lt, Le, Gt, Ge, Jump, JumpZ, Call, Ret, Drop, OutC, OutB, OutN, In, Ckpt, Excl}
+use Rattle.machine_code.specs.declared.instr.Instr.TheVariants.{StoreC, Move, Back, Fetch, Put, Div, Rem, Shl, Shr, Call, Ret}
 use Rattle.machine_code.specs.declared.event.Caller.{Caller}
 use Rattle.machine_code.specs.declared.event.Event.TheVariants.{Ran, WriteFault}
 use Rattle.machine_code.specs.CodeView.{CodeView, Function}

@@ -1,5 +1,5 @@
 -- What one step leaves, as its caller sees it.
-use Rattle.std.proofs.Common.{◌≡◌, ℕ, ◌/◌, ◌<◌, ◌≤◌, List, ◌++◌, length, Some, Bool, true, refl, sym, ap, ◌∙◌, subst}
+use Rattle.std.proofs.Common.{◌≡◌, ℕ, List, ◌++◌, Some, Bool, sym, ap, subst}
 use Rattle.std.specs.Prelude.{slice_get}
 use Rattle.ckpt_base.specs.Event as run
 use Rattle.machine_code.specs.declared.instr.Instr.{Instr}
@@ -8,7 +8,6 @@ use Rattle.machine_code.specs.State.{State}
 use Rattle.machine_code.specs.Row.{Done, row}
 use Rattle.machine_code.specs.Run.{World, world, row_at, next_row, Reaches}
 use Rattle.machine_code.specs.RunLaws.{reaches_row}
-use Rattle.paged_machine.specs.MachineView.{MachineView, after_done}
 
 -- the row of the instruction at the place is the next row
 pub is_next_row : (c : CodeView) (protected : ℕ → Bool) (s : State) (m : List ℕ) (i : Instr) → slice_get c.instrs s.place ≡ Some i → row c protected s m i ≡ next_row c protected s m

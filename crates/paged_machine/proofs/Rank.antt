@@ -1,19 +1,17 @@
 -- Each instruction ends the run, takes a tick, asks for something, or brings the machine nearer to a tick.
-use Rattle.std.proofs.Common.{◌≡◌, ◌≢◌, ℕ, zero, suc, ◌+◌, ◌-◌, ◌*◌, ◌^◌, ◌/◌, ◌<◌, ◌≤◌, List, [], ◌∷◌, ◌++◌, length, drop, Option, Some, None, Result, Ok, Err, Bool, true, false, cond, refl, sym, ap, ◌∙◌, subst, inl, inr, ⊎_elim, arith}
-use Rattle.std.specs.Prelude.{slice_get, slice_set, slice_index, nat_lt, ◌⊎◌}
+use Rattle.std.proofs.Common.{◌≡◌, ℕ, zero, suc, ◌+◌, ◌-◌, ◌*◌, ◌^◌, ◌/◌, ◌<◌, ◌≤◌, List, [], ◌∷◌, length, drop, Option, Some, None, Result, Ok, Err, Bool, true, false, cond, refl, sym, ap, ◌∙◌, subst, inl, inr, ⊎_elim, arith}
+use Rattle.std.specs.Prelude.{slice_get, slice_set, slice_index, nat_lt}
 use Rattle.std.proofs.Math.Nat.{mul-le-mul, mul-le-mul_right, pow-succ', pow-zero, pow-le-pow_right}
 use Rattle.std.proofs.lemmas.Bool.{cases_lt}
-use Rattle.std.proofs.lemmas.Bool.Decides.{nat_tests}
 use Rattle.ckpt_base.specs.declared.trap.Trap.{Trap}
 use Rattle.ckpt_base.specs.declared.trap.Trap.TheVariants.{TooManyCalls}
 use Rattle.ckpt_base.specs.Event as run
 use Rattle.ckpt_base.specs.Word.{word_holds}
 use Rattle.machine_code.specs.declared.instr.Instr.{Instr}
-use Rattle.machine_code.specs.declared.instr.Instr.TheVariants.{Tick, Num, Addr, LoadC, StoreC, LoadL, StoreL, Move, Back, Fetch, Put, Add, Sub, Mul, Div, Rem, Shl, Shr, And, Or, Xor, Neg, Not, Inv, Test, Eq, Ne, Lt, Le, Gt, Ge, Jump, JumpZ, Call, Ret, Drop, OutC, OutB, OutN, In, Ckpt, Excl}
+use Rattle.machine_code.specs.declared.instr.Instr.TheVariants.{Tick, StoreC, Move, Back, Fetch, Put, Div, Rem, Shl, Shr, Jump, JumpZ, Call, Ret, In}
 use Rattle.machine_code.specs.declared.event.Caller.{Caller}
 use Rattle.machine_code.specs.declared.event.Event.TheVariants.{Ran, WriteFault}
 use Rattle.machine_code.specs.CodeView.{CodeView, Function, start}
-use Rattle.machine_code.specs.Needs.{EachNext, needs, gives}
 use Rattle.machine_code.specs.Valid.{IsNext, Stands}
 use Rattle.machine_code.specs.State.{State, top, given, spent}
 use Rattle.machine_code.specs.Row.{Done, row, answered, stored, fetched, put, called, entered, returned, ran, trapped}

@@ -1,5 +1,5 @@
 -- A machine that stands in a valid code is ready for its next instruction, and still stands in it after that.
-use Rattle.std.proofs.Common.{◌≡◌, ℕ, zero, suc, ◌+◌, ◌-◌, ◌*◌, ◌/◌, ◌%◌, ◌^◌, ◌<◌, ◌≤◌, List, [], ◌∷◌, ◌++◌, length, get_or, drop, take, reverse, replicate, Option, Some, None, Result, Ok, Err, Bool, true, false, cond, refl, sym, ap, ◌∙◌, subst, arith, rules, length-drop, length-append, length-take-le}
+use Rattle.std.proofs.Common.{◌≡◌, ℕ, zero, suc, ◌+◌, ◌-◌, ◌*◌, ◌/◌, ◌<◌, ◌≤◌, List, [], ◌∷◌, ◌++◌, length, drop, take, reverse, replicate, Option, Some, None, Result, Ok, Err, Bool, true, false, cond, refl, sym, ap, ◌∙◌, subst, arith, length-drop, length-append, length-take-le}
 use Rattle.std.specs.Prelude.{slice_get, slice_set, slice_index, nat_lt}
 use Rattle.std.proofs.Math.ListN.{length-set}
 use Rattle.std.proofs.lemmas.Option.{slice_get_within}
@@ -13,13 +13,13 @@ use Rattle.machine_code.specs.declared.event.Caller.{Caller}
 use Rattle.machine_code.specs.declared.event.Event.TheVariants.{WriteFault, Ran}
 use Rattle.machine_code.specs.CodeView.{CodeView, Function, start, parameters, locals, locals_at, locals_from, most_locals}
 use Rattle.machine_code.specs.Needs.{needs, gives, parameters_of}
-use Rattle.machine_code.specs.Valid.{IsValid, IsFunction, AreDepths, Stands, StandsAt, IsNext}
+use Rattle.machine_code.specs.Valid.{IsFunction, AreDepths, Stands, StandsAt, IsNext}
 use Rattle.machine_code.specs.Memory.{FitsMemory, CellWithin}
-use Rattle.machine_code.specs.State.{State, top, given, spent}
-use Rattle.machine_code.specs.Row.{Done, row, answered, stored, fetched, put, called, entered, returned, ran, trapped}
+use Rattle.machine_code.specs.State.{top, given, spent}
+use Rattle.machine_code.specs.Row.{row, answered, stored, fetched, put, called, entered, returned, ran, trapped}
 use Rattle.paged_machine.specs.MachineView.{MachineView, after_done}
 use Rattle.paged_machine.specs.Standing.{IsAt, CallersStand, StandsBy}
-use Rattle.paged_machine.specs.Ready.{Ready, Named, CallFits}
+use Rattle.paged_machine.specs.Ready.{Ready, Named}
 use Rattle.paged_machine.proofs.Homes.{all_at, locals_start, locals_most, locals_of_most}
 
 pub some_at : {X : Type 0} (xs : List X) (k : ℕ) → k < length xs → (x : X) × (slice_get xs k ≡ Some x)

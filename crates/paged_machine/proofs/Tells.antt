@@ -1,14 +1,14 @@
 -- What an event says of its instruction.
-use Rattle.std.proofs.Common.{◌≡◌, ℕ, ◌/◌, ◌<◌, ◌≤◌, List, [], ◌∷◌, length, get_or, Result, Ok, Err, Bool, true, false, cond, not, Option, Some, None, refl, sym, ap, ◌∙◌, arith, ⊎_elim}
-use Rattle.std.specs.Prelude.{slice_get, slice_set, nat_lt}
+use Rattle.std.proofs.Common.{◌≡◌, ℕ, ◌/◌, ◌<◌, List, [], ◌∷◌, length, get_or, Result, Ok, Err, Bool, true, false, cond, not, Option, Some, None, refl, sym, ap, ◌∙◌, ⊎_elim}
+use Rattle.std.specs.Prelude.{slice_set, nat_lt}
 use Rattle.std.proofs.lemmas.Bool.{cases_lt}
 use Rattle.std.proofs.lemmas.List.{get_or_past}
 use Rattle.ckpt_base.specs.declared.trap.Trap.{Trap}
 use Rattle.ckpt_base.specs.declared.trap.Trap.TheVariants.{TooManyCalls}
 use Rattle.ckpt_base.specs.Event as run
-use Rattle.dirty_pages.specs.Pages.{PageStates, is_dirty, is_protected}
+use Rattle.dirty_pages.specs.Pages.{PageStates, is_protected}
 use Rattle.machine_code.specs.declared.instr.Instr.{Instr}
-use Rattle.machine_code.specs.declared.instr.Instr.TheVariants.{Tick, Num, Addr, LoadC, StoreC, LoadL, StoreL, Move, Back, Fetch, Put, Add, Sub, Mul, Div, Rem, Shl, Shr, And, Or, Xor, Neg, Not, Inv, Test, Eq, Ne, Lt, Le, Gt, Ge, Jump, JumpZ, Call, Ret, Drop, OutC, OutB, OutN, In, Ckpt, Excl}
+use Rattle.machine_code.specs.declared.instr.Instr.TheVariants.{StoreC, Move, Back, Fetch, Put, Div, Rem, Shl, Shr, Call, Ret, In}
 use Rattle.machine_code.specs.declared.event.Caller.{Caller}
 use Rattle.machine_code.specs.declared.event.Event.{Event}
 use Rattle.machine_code.specs.declared.event.Event.TheVariants.{Ran, WriteFault, WantsInput}

@@ -1,5 +1,5 @@
 -- What contracts see of a machine.
-use Rattle.std.specs.Prelude.{ℕ, List, Bool, true, false, take, reverse}
+use Rattle.std.specs.Prelude.{ℕ, List, Bool, false, take, reverse}
 use Rattle.machine_code.specs.State.{State}
 use Rattle.machine_code.specs.Row.{Done}
 use Rattle.machine_code.specs.declared.event.Event.{Event}

@@ -1,4 +1,4 @@
-use Rattle.std.proofs.Common.{◌≡◌, ◌%◌, ◌^◌, sym, ◌∙◌, refl, arith}
+use Rattle.std.proofs.Common.{◌%◌, ◌^◌, sym, ◌∙◌, refl, arith}
 use Rattle.paged_machine.proofs.Moved.{back_wraps, chosen}
 use Rattle.paged_machine.proofs.pointer.back.Goals as goal
 

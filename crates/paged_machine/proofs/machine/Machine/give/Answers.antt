@@ -1,11 +1,8 @@
-use Rattle.std.proofs.Common.{◌≡◌, ◌+◌, ◌<◌, length, ap, sym, ◌∙◌, subst, arith}
-use Rattle.machine_code.specs.CodeView.{CodeView}
+use Rattle.std.proofs.Common.{length, ap, sym, subst, arith}
 use Rattle.machine_code.specs.declared.instr.Instr.TheVariants.{In}
-use Rattle.machine_code.specs.State.{State, given}
-use Rattle.ckpt_base.specs.Word.{word_of}
 use Rattle.paged_machine.specs.MachineView.{MachineView}
 use Rattle.paged_machine.specs.Standing.{StandsBy}
-use Rattle.paged_machine.specs.Rank.{Nearer, rank, rank_limit}
+use Rattle.paged_machine.specs.Rank.{Nearer}
 use Rattle.paged_machine.proofs.Rank.{nearer_given, limited}
 use Rattle.paged_machine.proofs.Stays.{stands_there, given_fits, has, room_for}
 use Rattle.paged_machine.proofs.machine.Machine.give.Goals as goal

@@ -1,5 +1,4 @@
-use Rattle.std.proofs.Common.{◌≡◌, ◌*◌, ◌≤◌, [], true, sym, ap, subst, arith}
-use Rattle.machine_code.specs.CodeView.{most_locals}
+use Rattle.std.proofs.Common.{◌*◌, [], true, sym, subst, arith}
 use Rattle.paged_machine.specs.MachineView.{Stacked}
 use Rattle.paged_machine.specs.Standing.{StandsBy}
 use Rattle.paged_machine.proofs.Checkpoints.{standing_fits, at_main}

@@ -1,4 +1,4 @@
-use Rattle.std.proofs.Common.{◌≡◌, ap, sym, ◌∙◌, subst}
+use Rattle.std.proofs.Common.{ap, sym, ◌∙◌, subst}
 use Rattle.paged_machine.specs.MachineView.{MachineView}
 use Rattle.machine_code.specs.State.{standing}
 use Rattle.paged_machine.specs.Standing.{StandsBy}

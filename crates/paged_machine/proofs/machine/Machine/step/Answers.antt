@@ -1,13 +1,13 @@
-use Rattle.std.proofs.Common.{◌≡◌, ℕ, ◌<◌, Bool, length, true, sym, ap, ◌∙◌, subst}
+use Rattle.std.proofs.Common.{◌≡◌, ℕ, Bool, length, true, sym, ap, ◌∙◌, subst}
 use Rattle.std.specs.Prelude.{slice_index, slice_get, Some}
 use Rattle.machine_code.specs.declared.instr.Instr.TheVariants.{In}
 use Rattle.machine_code.specs.State.{State}
 use Rattle.paged_machine.proofs.Tells.{Tells, row_tells, is_there}
 use Rattle.dirty_pages.specs.Pages.{is_protected}
 use Rattle.machine_code.specs.Row.{Done, row}
-use Rattle.paged_machine.specs.MachineView.{MachineView, live_after, after_done}
+use Rattle.paged_machine.specs.MachineView.{MachineView, live_after}
 use Rattle.paged_machine.specs.Standing.{StandsBy}
-use Rattle.paged_machine.specs.Rank.{Falls, rank, rank_limit}
+use Rattle.paged_machine.specs.Rank.{Falls}
 use Rattle.paged_machine.proofs.Memory.{row_spares}
 use Rattle.paged_machine.proofs.Rank.{falls, limited}
 use Rattle.paged_machine.proofs.Stays.{any_ready, stays, stands_there}

@@ -1,5 +1,5 @@
-use Rattle.std.proofs.Common.{◌≡◌, ◌-◌, ◌∷◌, length, drop, ap, sym, ◌∙◌, arith, vec_len}
-use Rattle.paged_machine.specs.MachineView.{Stacked, tops}
+use Rattle.std.proofs.Common.{◌-◌, ◌∷◌, length, drop, ap, sym, ◌∙◌, arith, vec_len}
+use Rattle.paged_machine.specs.MachineView.{Stacked}
 use Rattle.paged_machine.proofs.Tops.{length_tops, tops_drop, tops_push}
 use Rattle.paged_machine.proofs.stack.Stack.replace.Goals as goal
 
