@@ -1,10 +1,10 @@
 -- How what a crash may leave goes on from call to call.
-use Rattle.std.proofs.Common.{◌≡◌, ◌⊎◌, inl, inr, ⊎_elim, refl, sym, ◌∙◌, ap, subst, ℕ, ◌≤◌, IsTrue, List, Result, Ok, Err, arith}
+use Rattle.std.proofs.Common.{◌≡◌, ◌≢◌, ◌⊎◌, inl, inr, ⊎_elim, refl, sym, ◌∙◌, ap, subst, ℕ, IsTrue, List, Result, Ok, Err, arith}
 use Rattle.disk_model.specs.declared.disk_file.DiskFile.{DiskFile}
 use Rattle.disk_model.specs.declared.disk_file.DiskFile.TheVariants.{Output, One, Two}
 use Rattle.disk_model.specs.Store.{Store, file_of, with_file}
-use Rattle.disk_model.specs.Change.{Change, Crashed}
-use Rattle.disk_model.specs.View.{View, IsDisk, On, Changes, Steady}
+use Rattle.disk_model.specs.Change.{Change, Sync, whole, Crashed}
+use Rattle.disk_model.specs.View.{View, IsDisk, On, IsMade, Changes, Looks, Steady}
 use Rattle.disk_model.specs.Moments.{Among, LeavesOnly}
 
 pub file_of-with_file : (f : DiskFile) (bytes : List ℕ) (s : Store) → file_of f (with_file f bytes s) ≡ bytes
@@ -108,3 +108,68 @@ then_on f a b c P R tells first second weaker =
 
 pub weaken_on : (f : DiskFile) (a b : View) (P R : List ℕ → Type 0) → LeavesOnly a b (Among a.may_leave (On f (λ _ x. R x))) → ((x : List ℕ) → R x → P x) → LeavesOnly a b (Among a.may_leave (On f (λ _ x. P x)))
 weaken_on f a b P R run weaker = weaken a b (Among a.may_leave (On f (λ _ x. P x))) (Among a.may_leave (On f (λ _ x. R x))) run (λ s from. (from.0, from.1, (from.2.0, weaker from.2.0 from.2.1, from.2.2)))
+
+-- One change of a file that has Q in each outcome: a crash at each moment of it leaves an earlier outcome, but for this file, where it has P.
+pub one_change : {T E : Type 0} (f : DiskFile) (change : Change) (result : Result T E) (old new : View) (Q P : List ℕ → Type 0) → Changes f change result old new → IsTrue old.tells → IsDisk old
+    → ((c : Store) → old.may_leave c → Q (file_of f c))
+    → ((x y : List ℕ) → Q x → Crashed change (file_of f old.seen) x y → P y)
+    → ((x : List ℕ) → Q x → P x)
+    → LeavesOnly old new (Among old.may_leave (On f (λ _ bytes. P bytes)))
+one_change f change result old new Q P changes tells disk was step stays =
+    after_change f change result old old new R (λ _. tells) (still old R (λ _. disk) (λ _. tells) (λ _. here)) changes (λ _ c left. ⊎_elim (here c) (λ from. (from.0, from.1, (from.2.0, step (file_of f from.0) from.2.0 (was from.0 from.1) from.2.1, from.2.2))) (changed f change result old new changes tells c left))
+  where
+    R : Store → Type 0
+    R = Among old.may_leave (On f (λ _ bytes. P bytes))
+
+    here : (c : Store) → old.may_leave c → R c
+    here c now = (c, now, (file_of f c, stays (file_of f c) (was c now), sym (with_file-same f c)))
+
+-- what a read gives of the file after a change
+pub made_seen : (f : DiskFile) (change : Change) (old new : View) → IsMade f change old new → file_of f new.seen ≡ whole change (file_of f old.seen)
+made_seen f change old new made = ap (file_of f) made.seen ∙ file_of-with_file f (whole change (file_of f old.seen)) old.seen
+
+-- what a crash leaves of the file after a change
+pub made_leaves : (f : DiskFile) (change : Change) (old new : View) (Q P : List ℕ → Type 0) → IsMade f change old new
+    → ((c : Store) → old.may_leave c → Q (file_of f c))
+    → ((x y : List ℕ) → Q x → Crashed change (file_of f old.seen) x y → P y)
+    → (c : Store) → new.may_leave c → P (file_of f c)
+made_leaves f change old new Q P made was step c left =
+    let from = (made.crash c).0 left in
+    subst P (sym (ap (file_of f) from.2.2 ∙ file_of-with_file f from.2.0 from.0)) (step (file_of f from.0) from.2.0 (was from.0 from.1) from.2.1)
+
+-- the other files, as reads give them
+pub other_file : (f g : DiskFile) (bytes : List ℕ) (s : Store) → f ≢ g → file_of g (with_file f bytes s) ≡ file_of g s
+other_file Output Output bytes s apart = absurd (apart refl)
+other_file Output One bytes s apart = refl
+other_file Output Two bytes s apart = refl
+other_file One Output bytes s apart = refl
+other_file One One bytes s apart = absurd (apart refl)
+other_file One Two bytes s apart = refl
+other_file Two Output bytes s apart = refl
+other_file Two One bytes s apart = refl
+other_file Two Two bytes s apart = absurd (apart refl)
+
+-- One look more.
+pub after_look : {T E : Type 0} (result : Result T E) (old mid new : View) (P : Store → Type 0) → LeavesOnly old mid P → Looks result mid new → LeavesOnly old new P
+after_look result old mid new P so_far call = record {
+  tells = call.tells ∙ so_far.tells;
+  tells_past = call.tells_past ∙ so_far.tells_past;
+  now = λ t c left. so_far.now t c ((call.crash (subst IsTrue (sym so_far.tells) t) c).0 left);
+  later = λ p. let a = so_far.later p in let b = call.later (q p) in omega (arith, a, b);
+  each = λ p c left. so_far.each p c ((call.past (q p) old.moment c (so_far.later p)).0 left);
+  before = λ p t c le left. let a = so_far.later p in so_far.before p t c le ((call.past (q p) t c (omega (arith, le, a))).0 left);
+}
+  where
+    q : IsTrue old.tells_past → IsTrue mid.tells_past
+    q p = subst IsTrue (sym so_far.tells_past) p
+
+-- a look keeps what each call keeps
+pub looks_steady : {T E : Type 0} (result : Result T E) (old new : View) → Looks result old new → Steady old new
+looks_steady (Ok x) old new call = record { tells = call.tells; tells_past = call.tells_past; faults = omega (arith, call.counts) }
+looks_steady (Err e) old new call = record { tells = call.tells; tells_past = call.tells_past; faults = call.counts.1 }
+
+-- Where each crash leaves the file as it reads, it is on the disk for good.
+pub synced_leaves : (f : DiskFile) (old new : View) → IsMade f Sync old new → (c : Store) → new.may_leave c → file_of f c ≡ file_of f old.seen
+synced_leaves f old new made c left =
+    let from = (made.crash c).0 left in
+    ap (file_of f) from.2.2 ∙ file_of-with_file f from.2.0 from.0 ∙ from.2.1

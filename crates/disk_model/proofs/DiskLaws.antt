@@ -1,15 +1,15 @@
 -- A disk in memory is a disk, call by call.
-use Rattle.std.proofs.Common.{◌≡◌, ◌⊎◌, ◌↔◌, inl, inr, ⊎_elim, refl, sym, ◌∙◌, ap, subst, ℕ, ◌+◌, ◌<◌, ◌≤◌, ◌==◌, ◌||◌, ◌&&◌, nat_lt, min, Bool, true, false, cond, IsTrue, List, [], ◌∷◌, ◌++◌, length, take, drop, Option, Some, None, Result, OnOk, Ok, Err, arith, append_assoc, length-append, length-take}
+use Rattle.std.proofs.Common.{◌≡◌, ◌⊎◌, ◌↔◌, inl, inr, ⊎_elim, refl, sym, ◌∙◌, ap, subst, ℕ, ◌+◌, ◌<◌, ◌≤◌, ◌==◌, ◌||◌, ◌&&◌, nat_lt, Bool, true, false, cond, IsTrue, List, [], ◌∷◌, ◌++◌, length, take, drop, Option, Some, None, Result, OnOk, Ok, Err, arith, append_assoc, length-append, length-take}
 use Rattle.std.proofs.lemmas.List.{take-append-le, take_at, drop_at, take_all}
 use Rattle.std.proofs.lemmas.Bool.Decides.{nat_tests}
 use Rattle.ckpt_base.specs.Faults.{Counts, counted, is_listed}
 use Rattle.disk_model.specs.declared.disk_file.DiskFile.{DiskFile}
 use Rattle.disk_model.specs.declared.disk_file.DiskFile.TheVariants.{Output, One, Two}
 use Rattle.disk_model.specs.Store.{Store, file_of, with_file}
-use Rattle.disk_model.specs.Change.{Change, Write, Cut, Sync, Start, whole, Torn, Shortened, Crashed, end_of, data_of}
-use Rattle.disk_model.specs.View.{View, On, Becomes, IsMade, IsPartlyMade, Changes, Looks, OnlySyncs, IsDisk}
+use Rattle.disk_model.specs.Change.{Change, Write, Cut, Sync, Start, whole, Crashed, end_of, data_of}
+use Rattle.disk_model.specs.View.{View, On, Becomes, IsMade, Changes, Looks, OnlySyncs, IsDisk}
 use Rattle.disk_model.specs.MemoryFile.{FileState, MayLeave, settled, changed, crashed, IsFile, IsTaken, BeginsWithin}
-use Rattle.disk_model.specs.MemoryDisk.{Files, state_of, with_state, bytes_of, reads_of, with_pending, AllLeft, AreFiles, Event, apply, after, MemoryDisk, may_leave_now, LeftThen, view_of, IsSound, call_fails, passes_room, is_refused, change_fails, FailsExactly, after_look, after_call, after_change_call, made, left_pending, after_change, HasRoomFor, crashed_files, started, after_crash}
+use Rattle.disk_model.specs.MemoryDisk.{Files, state_of, bytes_of, reads_of, with_pending, AllLeft, AreFiles, Event, apply, after, MemoryDisk, may_leave_now, LeftThen, view_of, IsSound, call_fails, passes_room, is_refused, change_fails, FailsExactly, after_look, after_change_call, made, left_pending, after_change, HasRoomFor, crashed_files, started}
 use Rattle.disk_model.proofs.Calls.{with_file-same}
 use Rattle.disk_model.proofs.Outcomes.{write_becomes, write_file, cut_becomes, cut_file, settled_only, settled_file, seen_left, cases_lt, crashed_left, length-patch}
 

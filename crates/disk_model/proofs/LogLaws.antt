@@ -1,5 +1,5 @@
 -- A log that takes one entry more.
-use Rattle.std.proofs.Common.{◌≡◌, refl, sym, ◌∙◌, ap, subst, ℕ, ◌+◌, ◌-◌, ◌<◌, ◌≤◌, min, List, [], ◌∷◌, ◌++◌, length, take, drop, slice_range, slice_set, map, rules, arith, append_assoc, length-take, length-append}
+use Rattle.std.proofs.Common.{◌≡◌, refl, sym, ◌∙◌, ap, ℕ, ◌+◌, ◌-◌, ◌<◌, ◌≤◌, List, [], ◌∷◌, ◌++◌, length, take, drop, slice_range, slice_set, rules, arith, append_assoc, length-take}
 use Rattle.std.proofs.lemmas.List.{take-append-le, take-take, take_at, drop_at, take_more_set, map-append}
 use Rattle.std.proofs.lemmas.Slice.{between_is}
 use Rattle.disk_model.specs.declared.memory_log.Entry.{Entry}

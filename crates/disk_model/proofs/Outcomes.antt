@@ -1,11 +1,11 @@
 -- What a crash may leave of a file after a change is what it might have left before, after the change's step.
-use Rattle.std.proofs.Common.{◌≡◌, ◌⊎◌, ◌↔◌, inl, inr, ⊎_elim, refl, sym, ◌∙◌, ap, subst, ℕ, suc, ◌+◌, ◌-◌, ◌*◌, ◌<◌, ◌≤◌, min, max, nat_lt, ◌==◌, Bool, true, false, cond, ◌||◌, ◌&&◌, not, List, [], ◌∷◌, ◌++◌, length, take, drop, replicate, get_or, map, arith, append_assoc, length-append, length-drop, length-take, take-append-drop}
-use Rattle.std.proofs.lemmas.List.{append-nil, take_at, drop_at, take_all, drop_all, take-take, same_lists, places, get_or-take, get_or-drop, get_or_append_left, get_or-append_right, get_or-replicate, length-replicate, get_or_default, get_or_past}
+use Rattle.std.proofs.Common.{◌≡◌, ◌⊎◌, ◌↔◌, inl, inr, refl, sym, ◌∙◌, ap, ℕ, ◌+◌, ◌-◌, ◌<◌, ◌≤◌, min, max, nat_lt, ◌==◌, Bool, true, false, cond, ◌&&◌, not, List, ◌++◌, length, take, drop, replicate, get_or, map, arith, length-append, length-drop, length-take}
+use Rattle.std.proofs.lemmas.List.{take_at, take_all, same_lists, get_or-take, get_or-drop, get_or_append_left, get_or-append_right, get_or-replicate, length-replicate, get_or_default, get_or_past}
 use Rattle.std.proofs.lemmas.List.FromFn.{length-map-range_with_len, get_or-map-range_with_len}
 use Rattle.std.proofs.lemmas.Bool.Decides.{nat_tests}
 use Rattle.std.specs.List.{range_with_len}
-use Rattle.disk_model.specs.Change.{Change, Write, Cut, Sync, Start, Torn, Shortened}
-use Rattle.disk_model.specs.MemoryFile.{FileState, MayLeave, settled, changed, IsFile, IsTaken, is_clean, spoiled, crashed}
+use Rattle.disk_model.specs.Change.{Write, Cut, Torn, Shortened}
+use Rattle.disk_model.specs.MemoryFile.{FileState, MayLeave, settled, changed, IsFile, is_clean, spoiled, crashed}
 
 pub cases_lt : (a b : ℕ) → (a < b) ⊎ (b ≤ a)
 cases_lt a b = elim (nat_lt a b) as (λ t. nat_lt a b ≡ t → (a < b) ⊎ (b ≤ a)) [ true ↦ λ is. inl (grind (arith, nat_tests)) | false ↦ λ is. inr (grind (arith, nat_tests)) ] refl

@@ -1,7 +1,5 @@
-use Rattle.std.proofs.Common.{rules, arith, ◌≡◌, refl, ◌∙◌, sym, ap, ℕ, Bool, List, ◌<◌, ◌&&◌, ◌==◌, not, nat_lt, true, false, cond, take, get_or, map, length, length-take}
+use Rattle.std.proofs.Common.{arith, ◌≡◌, ◌∙◌, sym, ℕ, List, ◌==◌, cond}
 use Rattle.std.proofs.lemmas.Bool.Decides.{nat_tests}
-use Rattle.std.specs.List.{range_with_len}
-use Rattle.disk_model.specs.MemoryFile.{FileState, crashed, spoiled}
 use Rattle.disk_model.proofs.Outcomes.{spoiled_front}
 use Rattle.disk_model.proofs.memory_file.leave.Goals as goal
 

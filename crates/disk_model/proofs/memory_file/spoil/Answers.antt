@@ -1,4 +1,4 @@
-use Rattle.std.proofs.Common.{arith, ◌≡◌, ◌∙◌, ℕ, ◌<◌, ◌&&◌, not, nat_lt, false, cond, take, get_or, length, length-take}
+use Rattle.std.proofs.Common.{arith, ◌∙◌, ◌&&◌, not, nat_lt, false, cond, take, get_or, length-take}
 use Rattle.std.proofs.lemmas.List.{get_or-take}
 use Rattle.std.proofs.lemmas.List.FromFn.{fill_by_all}
 use Rattle.disk_model.proofs.memory_file.spoil.Goals as goal

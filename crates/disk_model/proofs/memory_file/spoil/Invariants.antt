@@ -1,4 +1,4 @@
-use Rattle.std.proofs.Common.{◌≡◌, ◌<◌, ◌≤◌, ℕ, get_or, length, nat_lt, not, ◌&&◌, cond, Bool, false}
+use Rattle.std.proofs.Common.{◌≡◌, ◌<◌, ◌≤◌, ℕ, get_or, length, nat_lt, not, ◌&&◌, cond, false}
 use Rattle.disk_model.proofs.memory_file.spoil.Given as goal
 
 abbrev pub invariant-loop-i : goal.invariant-loop-i

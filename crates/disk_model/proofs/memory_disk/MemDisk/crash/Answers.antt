@@ -1,5 +1,5 @@
-use Rattle.std.proofs.Common.{rules, refl, sym, ◌∙◌, ◌≡◌, ap, subst, false, true, IsTrue}
-use Rattle.disk_model.specs.MemoryDisk.{Files, MemoryDisk, IsSound, AreFiles, bytes_of, reads_of, may_leave_now, empty_files, crashed_files, started}
+use Rattle.std.proofs.Common.{refl, sym, ◌∙◌, ◌≡◌, ap, subst, false, true}
+use Rattle.disk_model.specs.MemoryDisk.{Files, MemoryDisk, AreFiles, bytes_of, reads_of, may_leave_now, empty_files, crashed_files, started}
 use Rattle.disk_model.proofs.DiskLaws.{crash_left, crash_sound}
 use Rattle.disk_model.proofs.memory_disk.MemDisk.crash.Goals as goal
 

@@ -1,8 +1,8 @@
-use Rattle.std.proofs.Common.{rules, arith, refl, sym, ◌∙◌, ap, subst, ◌≡◌, ◌≤◌, ◌+◌, ◌++◌, [], ◌∷◌, List, length, None, true, IsTrue, Option, ℕ}
+use Rattle.std.proofs.Common.{sym, ◌∙◌, ap, subst, ◌≡◌, List, None, IsTrue, Option, ℕ}
 use Rattle.disk_model.specs.declared.disk_file.DiskFile.{DiskFile}
 use Rattle.disk_model.specs.MemoryFile.{IsTaken}
 use Rattle.disk_model.specs.MemoryLog.{change_of}
-use Rattle.disk_model.specs.MemoryDisk.{Files, Event, MemoryDisk, IsSound, HasRoomFor, after, state_of, apply, empty_files}
+use Rattle.disk_model.specs.MemoryDisk.{Files, MemoryDisk, IsSound, HasRoomFor, state_of, apply, empty_files}
 use Rattle.disk_model.proofs.DiskLaws.{all_kept, replayed_next, kept_events}
 use Rattle.disk_model.proofs.memory_disk.MemDisk.make.Goals as goal
 

@@ -2,7 +2,7 @@ use Rattle.std.proofs.Common.{rules, ◌≤◌, sym, subst, ◌≡◌, true, fal
 use Rattle.ckpt_base.specs.Faults.{counted}
 use Rattle.disk_model.specs.View.{Changes}
 use Rattle.disk_model.specs.MemoryLog.{change_of}
-use Rattle.disk_model.specs.MemoryDisk.{MemoryDisk, IsSound, view_of, change_fails, after_change, is_refused, FailsExactly}
+use Rattle.disk_model.specs.MemoryDisk.{MemoryDisk, IsSound, view_of, change_fails, after_change}
 use Rattle.disk_model.proofs.DiskLaws.{changes_law}
 use Rattle.disk_model.proofs.memory_disk.MemDisk.run.Goals as goal
 

@@ -1,4 +1,4 @@
-use Rattle.std.proofs.Common.{rules, ◌≤◌, sym, subst}
+use Rattle.std.proofs.Common.{◌≤◌, sym, subst}
 use Rattle.disk_model.specs.View.{Looks}
 use Rattle.disk_model.specs.MemoryDisk.{MemoryDisk, view_of}
 use Rattle.disk_model.proofs.DiskLaws.{looks_law}

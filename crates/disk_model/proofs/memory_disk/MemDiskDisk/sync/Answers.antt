@@ -1,4 +1,3 @@
-use Rattle.std.proofs.Common.{refl}
 use Rattle.disk_model.specs.MemoryDisk.{view_of, lawful}
 use Rattle.disk_model.proofs.DiskLaws.{sync_law}
 use Rattle.disk_model.proofs.memory_disk.MemDiskDisk.sync.Goals as goal

@@ -1,4 +1,4 @@
-use Rattle.std.proofs.Common.{sym, subst, ap, ◌≡◌, true}
+use Rattle.std.proofs.Common.{sym, subst, ◌≡◌, true}
 use Rattle.ckpt_base.specs.Faults.{Counts}
 use Rattle.disk_model.specs.Change.{Write}
 use Rattle.disk_model.specs.View.{IsRefused}

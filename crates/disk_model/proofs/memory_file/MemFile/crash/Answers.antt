@@ -1,4 +1,4 @@
-use Rattle.std.proofs.Common.{rules, arith, refl, sym, ◌∙◌, ap, subst, ◌≡◌, ◌≤◌, ℕ, List, Bool, false, length, take, replicate, length-take}
+use Rattle.std.proofs.Common.{rules, arith, sym, ◌∙◌, ap, subst, ◌≡◌, ℕ, List, Bool, false, length, take, replicate, length-take}
 use Rattle.std.proofs.lemmas.List.{length-replicate}
 use Rattle.disk_model.specs.MemoryFile.{FileState, IsFile, settled, crashed}
 use Rattle.disk_model.proofs.Outcomes.{settled_file}

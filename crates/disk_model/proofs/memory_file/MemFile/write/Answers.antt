@@ -1,4 +1,4 @@
-use Rattle.std.proofs.Common.{rules, arith, refl, sym, ◌∙◌, ap, subst, ◌≡◌, ◌≤◌, ◌+◌, ℕ, List, length, take, length-take}
+use Rattle.std.proofs.Common.{arith, sym, ◌∙◌, ap, subst, ◌≤◌, ℕ, List, length, take, length-take}
 use Rattle.disk_model.specs.Change.{Write}
 use Rattle.disk_model.specs.MemoryFile.{FileState, IsFile, IsTaken, changed}
 use Rattle.disk_model.proofs.Outcomes.{patch, patch_front, write_file, same_state, length-patch, length-marked}

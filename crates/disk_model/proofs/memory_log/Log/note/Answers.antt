@@ -1,7 +1,7 @@
-use Rattle.std.proofs.Common.{rules, arith, refl, sym, ◌∙◌, ap, subst, ◌≡◌, ◌≤◌, ◌<◌, ◌+◌, ◌*◌, ◌-◌, ◌++◌, [], ◌∷◌, ℕ, List, length, take, slice_set, length-set}
+use Rattle.std.proofs.Common.{arith, refl, ◌∙◌, ap, ◌≤◌, ◌<◌, ◌+◌, ◌*◌, ◌-◌, ◌++◌, [], ◌∷◌, ℕ, List, length, take, slice_set, length-set}
 use Rattle.std.proofs.lemmas.List.{take_more_set}
 use Rattle.disk_model.specs.declared.memory_log.Entry.{Entry}
-use Rattle.disk_model.specs.MemoryLog.{LogState, change_of, events_of, AreWithin}
+use Rattle.disk_model.specs.MemoryLog.{LogState, change_of, events_of}
 use Rattle.disk_model.specs.MemoryDisk.{Event}
 use Rattle.disk_model.proofs.LogLaws.{noted, within_push}
 use Rattle.disk_model.proofs.Outcomes.{length-patch}
