@@ -2,7 +2,6 @@
 use Rattle.std.specs.Prelude.{◌≡◌, ℕ, [], Bool, true, false, IsTrue}
 use Rattle.ckpt_base.specs.Shelf.{ShelfView}
 use Rattle.ckpt_base.specs.Sink.{SinkView}
-use Rattle.disk_model.specs.Store.{Store}
 use Rattle.disk_model.specs.View.{View, IsDisk}
 
 abbrev pub untold_shelf : Bool → ℕ → ShelfView
