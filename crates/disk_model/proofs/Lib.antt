@@ -1,0 +1,8 @@
+-- how what a crash may leave goes on from call to call
+pub mod Calls
+-- what a crash may leave of a file after each change
+mod Outcomes
+-- a log that takes one entry more
+mod LogLaws
+-- a disk in memory is a disk, call by call
+mod DiskLaws

@@ -1,0 +1,2 @@
+-- what the real shelf, sink and disk tell
+pub mod Untold
