@@ -6,8 +6,6 @@ pub mod Parsed
 pub mod Check
 -- what reading a whole file comes to
 pub mod Fetched
--- what the real shelf and console tell
-pub mod Untold
 -- the status and the text of an outcome
 pub mod Texts
 -- when each outcome comes

@@ -1,4 +1,4 @@
-//! The program `ckpt`: it carries out the order that its words give.
+//! The program `ckpt`: it carries out the command that its words are.
 //!
 //! `top::ckpt` is the whole program over any shelf of files and any console, and its contract is the theorem of the program.
 //! `main` gives it the files and the standard output of the host, and ends with the status that it answers.
@@ -6,7 +6,6 @@
 
 mod check;
 mod console;
-mod host;
 mod intake;
 mod outcome;
 #[cfg(test)]
@@ -15,11 +14,11 @@ mod top;
 mod words;
 
 use ckpt_base::{NoMemory, Text};
-use host::{FileShelf, StdSink};
+use host_edge::{FileShelf, StdSink};
 use std::env;
 use std::process::ExitCode;
 
-// The words after the program's name. Where one is no text there are none, so that they are no order.
+// The words after the program's name. Where one is no text there are none, so that they are no command.
 fn words_of(rt: &HostRuntime) -> Result<Vec<Text>, NoMemory> {
     let mut words = Vec::new(rt.alloc());
     if let Ok(args) = env::args(rt) {
