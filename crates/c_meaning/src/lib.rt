@@ -10,8 +10,6 @@ mod evaluator;
 mod memory;
 mod progress;
 mod run;
-//#[cfg(test)]
-//mod tests;
 mod value;
 mod work;
 

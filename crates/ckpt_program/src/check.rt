@@ -1,5 +1,6 @@
-ghost use Rattle.std.specs.Prelude.{◌≡◌, ◌<◌, Some, IfOk, IfErr, MatchOption, map};
+ghost use Rattle.std.specs.Prelude.{◌≡◌, ◌<◌, ◌≤◌, Some, IfOk, IfErr, MatchOption, map};
 ghost use Rattle.c_tree.specs.Checked.{IsChecked};
+ghost use Rattle.c_tree.specs.Nodes.{node_count};
 ghost use Rattle.c_tree.specs.declared.resolved.RStmt.{RStmt};
 ghost use Rattle.ckpt_program.specs.Check as spec;
 ghost use Rattle.ckpt_program.specs.Check.{HasFewNodes, IsRefused};
@@ -67,6 +68,8 @@ pub fn check(alloc: Global, program: Program) -> Result<Checked, CheckFault>
 
 /// A program with no objects and no functions but `main`.
 fn tree_of(alloc: Global, name: Text, body: RStmt) -> Resolved
+    requires few { node_count body ≤ 2048 }
+    ensures checked { IsChecked result }
     ensures answer { result ≡ spec.with_main name body }
 {
     Resolved {
