@@ -72,7 +72,7 @@ turns_steady (suc b) e body u h n w w' a =
     let x = loop_ways (perhaps u (k w)) w in
     let x' = loop_ways (perhaps u (k w')) w' in
     tick_agrees n (chooses e (body x) w.next) (chooses e (body x') w'.next)
-        (chooses_agrees n e (body x) (body x') w.next w'.next (h n x x' (record { next = l; out_of_loop = a.next; again = l; back = a.back })) a.next)
+    (chooses_agrees n e (body x) (body x') w.next w'.next (h n x x' (record { next = l; out_of_loop = a.next; again = l; back = a.back })) a.next)
 
 loop_steady : (e : Value) (body : Ways → Then) (u : Option RAssign) → Steady body → Steady (loop e body (perhaps u))
 loop_steady e body u h n w w' a = λ s m le. turns_steady (suc m) e body u h n w w' a s m le
@@ -88,7 +88,7 @@ module _ (calls : Calls) (sc : SteadyCalls calls) (X X' Y Y' : Type 0) (p : X �
       let y = g (q x) in
       let rest = tests (map g (map q xs)) last (m + 1 + y.body.size) in
       tick_agrees n (chooses y.test (y.body.does (m + 1) w) (rest w)) (chooses y.test (y.body.does (m + 1) w') (rest w'))
-          (chooses_agrees n y.test (y.body.does (m + 1) w) (y.body.does (m + 1) w') (rest w) (rest w') (hg x (m + 1) n w w' a) (test_parts xs last l (m + 1 + y.body.size) n w w' a))
+      (chooses_agrees n y.test (y.body.does (m + 1) w) (y.body.does (m + 1) w') (rest w) (rest w') (hg x (m + 1) n w w' a) (test_parts xs last l (m + 1 + y.body.size) n w w' a))
 
   layer : (y : RStmt-F X X') → SteadyPiece (piece_at calls (map-RStmt Y Y' Piece ArmPiece f g (map-RStmt X X' Y Y' p q y)))
   layer RStmt-F.Empty m n w w' a = a.next

@@ -45,9 +45,12 @@ module _ (d : RPlace) (t : Target) (is : (vs : Variables) → target d vs ≡ Ok
 
   pub set_did : (x : RExpr) → Ok a ≡ value x (variables p.memory) → Did (set d x) p p' (Ok tt)
   set_did x h es shown =
-      let y = wrote_did t a p p' v i o k es shown in
-      (y.0, y.1, ap (λ (r : Result Target Trap). r >>= (λ c. value x (variables p.memory) >>= (λ a. write c a (state p es)))) (is (variables p.memory))
-      ∙ ap (λ (r : Result ℕ Trap). r >>= (λ a. write t a (state p es))) (sym h) ∙ y.2)
+      let y = wrote_did t a p p' v i o k es shown in (
+        y.0,
+        y.1,
+        ap (λ (r : Result Target Trap). r >>= (λ c. value x (variables p.memory) >>= (λ a. write c a (state p es)))) (is (variables p.memory))
+            ∙ ap (λ (r : Result ℕ Trap). r >>= (λ a. write t a (state p es))) (sym h) ∙ y.2,
+      )
 
 pub put_did : (x : RExpr) (a b : ℕ) (p : Progress) (bytes : List ℕ) → Ok a ≡ value x (variables p.memory) → b ≡ word_low_byte a → bytes ≡ p.output ++ b ∷ [] → Did (put x) p (record p { output = bytes }) (Ok tt)
 put_did x a b p bytes h low grown es shown = (

@@ -114,10 +114,12 @@ module _ (e : Evaluator) (s : RStmt) where
       → Ticks (λ k w. chooses (test_value (Some x)) ((piece (calls e) b).does k (loop_ways (perhaps None (loop (test_value (Some x)) ((piece (calls e) b).does k) (perhaps None) w)) w)) w.next) e n r
   while_ticks x b b' bs is m n r y =
       let k = m + 1 in
-      let to = λ (w : Ways). chooses (test_value (Some x)) ((piece (calls e) b).does k (loop_ways (perhaps None (loop (test_value (Some x)) ((piece (calls e) b).does k) (perhaps None) w)) w)) w.next in
-      (k, moved e e _ (λ w. tick (to w)) (λ ms. ms) n r refl (λ ms s' n.
-      ap (λ (q : Piece). q.does m (ways_on e ms) s' n) (ap (piece (calls e)) (is ∙ ap (stmt.While x) (sym bs)) ∙ piece_while (calls e) x b)
-      ∙ unrolls (test_value (Some x)) ((piece (calls e) b).does k) None (piece_steady (calls e) (calls_steady e.progress.functions.now 1000) b k) (ways_on e ms) s' n) y)
+      let to = λ (w : Ways). chooses (test_value (Some x)) ((piece (calls e) b).does k (loop_ways (perhaps None (loop (test_value (Some x)) ((piece (calls e) b).does k) (perhaps None) w)) w)) w.next in (
+        k,
+        moved e e _ (λ w. tick (to w)) (λ ms. ms) n r refl (λ ms s' n.
+            ap (λ (q : Piece). q.does m (ways_on e ms) s' n) (ap (piece (calls e)) (is ∙ ap (stmt.While x) (sym bs)) ∙ piece_while (calls e) x b)
+            ∙ unrolls (test_value (Some x)) ((piece (calls e) b).does k) None (piece_steady (calls e) (calls_steady e.progress.functions.now 1000) b k) (ways_on e ms) s' n) y,
+      )
 
   module _ (o : Option (Bor RExpr)) (ou : Option (Bor RAssign)) (x : Option RExpr) (u : Option RAssign) (b b' : RStmt) (hx : MatchOption o (x ≡ None) (λ y. x ≡ Some y.now)) (hu : MatchOption ou (u ≡ None) (λ y. u ≡ Some y.now)) (bs : b ≡ b') where
     for_is : (i : Option RAssign) (m : ℕ) (w : Ways) → s ≡ stmt.For i x u b'
@@ -133,14 +135,16 @@ module _ (e : Evaluator) (s : RStmt) where
     pub first_ticks : (i : Option RAssign) (a : RAssign) (e' : Evaluator) (l : Loop) → l.test ≡ o → l.update ≡ ou → l.body.now ≡ b → i ≡ Some a → s ≡ stmt.For i x u b' → e'.progress ≡ e.progress → todo e' ≡ item.Turn l ∷ todo e
         → (m n : ℕ) (r : Run) → From ((piece (calls e) s).does m) e n r → Ticks (λ k w. acts (set a.place a.value) w.next) e' n r
     first_ticks i a e' l lt lu lb some is same t m n r y =
-        let k = m + assign_count (Some a) + 1 + assign_count u in
-        (m, moved e e' _ (λ w. tick (acts (set a.place a.value) w.next)) (λ ms. k ∷ ms) n r same (λ ms s' n.
-        ap (λ (f : Then). f s' n) (for_is (Some a) m (ways_on e ms) (is ∙ ap (λ (j : Option RAssign). stmt.For j x u b') some)
-        ∙ ap (λ (f : Then). single (assign a) f)
-        (ap (λ (z : Option (Bor RExpr)). loop (test_of z) ((piece (calls e) b).does k) (update_of ou) (ways_on e ms)) (sym lt)
-        ∙ ap (λ (z : Option (Bor RAssign)). loop (test_of l.test) ((piece (calls e) b).does k) (update_of z) (ways_on e ms)) (sym lu)
-        ∙ ap (λ (z : RStmt). loop (test_of l.test) ((piece (calls e) z).does k) (update_of l.update) (ways_on e ms)) (sym lb)))
-        ∙ ap (λ (w : Ways). tick (acts (set a.place a.value) w.next) s' n) (sym (added e e' (item.Turn l) same t k ms))) y)
+        let k = m + assign_count (Some a) + 1 + assign_count u in (
+          m,
+          moved e e' _ (λ w. tick (acts (set a.place a.value) w.next)) (λ ms. k ∷ ms) n r same (λ ms s' n.
+              ap (λ (f : Then). f s' n) (for_is (Some a) m (ways_on e ms) (is ∙ ap (λ (j : Option RAssign). stmt.For j x u b') some)
+              ∙ ap (λ (f : Then). single (assign a) f)
+              (ap (λ (z : Option (Bor RExpr)). loop (test_of z) ((piece (calls e) b).does k) (update_of ou) (ways_on e ms)) (sym lt)
+              ∙ ap (λ (z : Option (Bor RAssign)). loop (test_of l.test) ((piece (calls e) b).does k) (update_of z) (ways_on e ms)) (sym lu)
+              ∙ ap (λ (z : RStmt). loop (test_of l.test) ((piece (calls e) z).does k) (update_of l.update) (ways_on e ms)) (sym lb)))
+              ∙ ap (λ (w : Ways). tick (acts (set a.place a.value) w.next) s' n) (sym (added e e' (item.Turn l) same t k ms))) y,
+        )
 
   pub do_stands : (x : RExpr) (b : RStmt) (c : Bor RStmt) (l : Loop) (e1 e2 : Evaluator) → c.now ≡ b → l.body.now ≡ b → test_of l.test ≡ test_value (Some x) → update_of l.update ≡ perhaps None → s ≡ stmt.Do b x
       → e1.progress ≡ e.progress → todo e1 ≡ item.Again l ∷ todo e → e2.progress ≡ e1.progress → todo e2 ≡ item.One c ∷ todo e1

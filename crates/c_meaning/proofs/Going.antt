@@ -33,13 +33,16 @@ removed e e' i same t ms = ap (λ (is : List Item). ways (calls e) is ms) t ∙ 
 
 -- the next item was taken away
 pub taken : (e e' : Evaluator) (i : Item) (n : ℕ) (r : Run) → e'.progress ≡ e.progress → todo e ≡ i ∷ todo e' → Stands e n r → (m : ℕ) × From (λ w. (before (calls e') i m w).next) e' n r
-taken e e' i n r same t x = (first x.numbers, record {
-  events = x.events;
-  numbers = others x.numbers;
-  shown = ap (λ (p : Progress). p.output) same ∙ x.shown;
-  goes = x.goes ∙ ap (λ (w : Ways). w.next (state e.progress x.events) n) (removed e e' i same t x.numbers)
-      ∙ ap (λ (p : Progress). (before (calls e') i (first x.numbers) (ways_on e' (others x.numbers))).next (state p x.events) n) (sym same);
-})
+taken e e' i n r same t x = (
+  first x.numbers,
+  record {
+    events = x.events;
+    numbers = others x.numbers;
+    shown = ap (λ (p : Progress). p.output) same ∙ x.shown;
+    goes = x.goes ∙ ap (λ (w : Ways). w.next (state e.progress x.events) n) (removed e e' i same t x.numbers)
+        ∙ ap (λ (p : Progress). (before (calls e') i (first x.numbers) (ways_on e' (others x.numbers))).next (state p x.events) n) (sym same);
+  },
+)
 
 -- ---- loops that are left
 
@@ -75,10 +78,13 @@ loop_skipped e a b l x same t ms = (
 )
 
 pub all_skipped : (e a b : Evaluator) → Passed e a → todo a ≡ [] → todo b ≡ [] → Skipped e b None
-all_skipped e a b x t u = (u, λ ms. (
-  x.out_of_loop ms ∙ ap (λ (is : List Item). (ways (calls a) is (x.numbers ms)).out_of_loop) t,
-  x.again ms ∙ ap (λ (is : List Item). (ways (calls a) is (x.numbers ms)).again) t,
-))
+all_skipped e a b x t u = (
+  u,
+  λ ms. (
+    x.out_of_loop ms ∙ ap (λ (is : List Item). (ways (calls a) is (x.numbers ms)).out_of_loop) t,
+    x.again ms ∙ ap (λ (is : List Item). (ways (calls a) is (x.numbers ms)).again) t,
+  ),
+)
 
 pub some_weight : (i : Item) (is js : List Item) → is ≡ i ∷ js → weights js < weights is
 some_weight (item.One s) is js t = omega (arith, ap weights t)

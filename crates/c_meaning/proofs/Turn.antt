@@ -51,10 +51,13 @@ again_ticks e i l is none m n r = loop_ticks e l.test l.update l.body.now _ m n 
 
 pub update_ticks : (e e' : Evaluator) (i : Item) (l : Loop) (a : Bor RAssign) → i ≡ item.Again l → l.update ≡ Some a → e'.progress ≡ e.progress → todo e' ≡ item.Turn l ∷ todo e
     → (m n : ℕ) (r : Run) → From (λ w. (before (calls e) i m w).next) e n r → Ticks (λ k w. acts (set a.now.place a.now.value) w.next) e' n r
-update_ticks e e' i l a is some same t m n r y = (m, moved e e' (λ w. (before (calls e) i m w).next) (λ w. tick (acts (set a.now.place a.now.value) w.next)) (λ ms. m ∷ ms) n r same (λ ms s n. ap (λ (f : Then). f s n) (
-    ap (λ (j : Item). (before (calls e) j m (ways_on e ms)).next) is
-    ∙ ap (λ (u : Option (Bor RAssign)). update_of u (looping (calls e) l m (ways_on e ms))) some
-    ∙ ap (λ (w : Ways). tick (acts (set a.now.place a.now.value) w.next)) (sym (added e e' (item.Turn l) same t m ms)))) y)
+update_ticks e e' i l a is some same t m n r y = (
+  m,
+  moved e e' (λ w. (before (calls e) i m w).next) (λ w. tick (acts (set a.now.place a.now.value) w.next)) (λ ms. m ∷ ms) n r same (λ ms s n. ap (λ (f : Then). f s n) (
+      ap (λ (j : Item). (before (calls e) j m (ways_on e ms)).next) is
+      ∙ ap (λ (u : Option (Bor RAssign)). update_of u (looping (calls e) l m (ways_on e ms))) some
+      ∙ ap (λ (w : Ways). tick (acts (set a.now.place a.now.value) w.next)) (sym (added e e' (item.Turn l) same t m ms)))) y,
+)
 
 -- ---- tests
 
@@ -146,8 +149,8 @@ return_done e t x a g is h gs m n r f =
     let w = ways_on e f.numbers in
     let s = state e.progress f.events in
     let k : r ≡ over (Ended (signed a)) s = f.goes ∙ ap (λ (u : Task). does_task (calls e) u m w s n) is
-        ∙ ap (λ (v : Result ℕ Trap). given v s (λ (a : ℕ). w.back a s n)) (sym h)
-        ∙ ap (λ (back : ℕ → Then). back a s n) (back_stays (calls e) (todo e) f.numbers) in record {
+    ∙ ap (λ (v : Result ℕ Trap). given v s (λ (a : ℕ). w.back a s n)) (sym h)
+    ∙ ap (λ (back : ℕ → Then). back a s n) (back_stays (calls e) (todo e) f.numbers) in record {
       same_output = f.shown ∙ ap (λ (r : Run). run.output r.events) (sym k);
       same_ending = gs ∙ ap (λ (r : Run). r.ending) (sym k);
       same_ticks = ap (λ (r : Run). r.ticks) (sym k);

@@ -28,7 +28,11 @@ pub struct Evaluator<'a> {
 
 impl<'a> Evaluator<'a> {
     /// A run that stands before the body of `main`.
-    pub fn start(alloc: Global, tree: &'a Resolved, input: &'a [u8]) -> Result<Evaluator<'a>, NoMemory>
+    pub fn start(
+        alloc: Global,
+        tree: &'a Resolved,
+        input: &'a [u8],
+    ) -> Result<Evaluator<'a>, NoMemory>
         ensures stands { IfOk result (λ e. (n : ℕ) → Stands e n (meaning tree.now input.now n)) }
         ensures ticks { IfOk result (λ e. e.progress.ticks ≡ 0) }
     {

@@ -21,7 +21,11 @@ pub fn first_cells(alloc: Global, tree: &Resolved) -> Result<Items<u64>, NoMemor
 {
     let mut cells = Items::new(alloc);
     'objects: for object in tree.objects.as_slice() {
-        fill(&mut cells, object.length as usize, word::word_of(object.first))?;
+        fill(
+            &mut cells,
+            object.length as usize,
+            word::word_of(object.first),
+        )?;
     }
     fill(&mut cells, tree.main.locals.len(), 0)?;
     Ok(cells)

@@ -11,10 +11,7 @@ pub fn node_count(stmt: &RStmt) -> u32
 {
     match stmt {
         RStmt::Empty | RStmt::Break | RStmt::Continue => 0,
-        RStmt::Declare(_, _)
-        | RStmt::Set(_, _)
-        | RStmt::Put(_)
-        | RStmt::Return(_) => 1,
+        RStmt::Declare(_, _) | RStmt::Set(_, _) | RStmt::Put(_) | RStmt::Return(_) => 1,
         RStmt::If(arms, last) => {
             let mut count = 0;
             'arms: for arm in arms.as_slice() {

@@ -119,12 +119,7 @@ pub enum RStmt {
     /// A loop with its condition behind each turn.
     Do(Boxed<RStmt>, RExpr),
     /// A loop with an assignment before it, a condition before each turn and an assignment behind each turn.
-    For(
-        Option<RAssign>,
-        Option<RExpr>,
-        Option<RAssign>,
-        Boxed<RStmt>,
-    ),
+    For(Option<RAssign>, Option<RExpr>, Option<RAssign>, Boxed<RStmt>),
     /// Statements, one after the other.
     Block(Items<RStmt>),
     /// Leaves the innermost loop.
