@@ -1,5 +1,1 @@
-pub mod Agree
-pub mod Did
 pub mod Going
-pub mod Enter
-pub mod Turn

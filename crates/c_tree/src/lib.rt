@@ -15,9 +15,6 @@ mod tree;
 
 pub use checked::{Checked, MAIN_NODES};
 pub use nodes::node_count;
-pub use resolved::{
-    ObjectKind, RArm, RAssign, RBinary, RExpr, RFunction, RLocal, RObject, RPlace, RStmt, RUnary,
-    Resolved,
-};
+pub use resolved::{RBinary, RExpr, RFunction, RStmt, Resolved};
 pub use token::{Kind, Piece, Token};
 pub use tree::{Binary, Expr, Item, Program, Stmt};

@@ -1,5 +1,5 @@
 -- The resolved tree of a program, and why one is refused.
-use Rattle.std.specs.Prelude.{ℕ, ◌≡◌, ◌<◌, false, List, [], ◌∷◌, map, Option, Some, None, option_map}
+use Rattle.std.specs.Prelude.{◌≡◌, ◌<◌, List, [], ◌∷◌, map, Option, Some, None, option_map}
 use Rattle.ckpt_base.specs.Word.{signed}
 use Rattle.c_tree.specs.declared.tree.Binary.{Binary}
 use Rattle.c_tree.specs.declared.tree.Binary.TheVariants as binary
@@ -49,13 +49,8 @@ abbrev pub main_of : List Item → Option (List Stmt)
 main_of [] = None
 main_of (item.Main ss ∷ is) = Some ss
 
--- a program with no objects and no functions but `main`, whose name is spelled so
-abbrev pub with_main : List ℕ → RStmt → Resolved
-with_main name body = record { objects = []; functions = []; main = record { name = name; gives_pointer = false; parameters = 0; locals = []; body = body } }
-
--- its name has the bytes of the word
 abbrev pub tree_of : List Stmt → Resolved
-tree_of ss = with_main (109 ∷ 97 ∷ 105 ∷ 110 ∷ []) (resolved_block ss)
+tree_of ss = record { main = record { body = resolved_block ss } }
 
 -- the resolved tree of a program, where it has a `main`
 abbrev pub resolved : Program → Option Resolved

@@ -1,6 +1,5 @@
-ghost use Rattle.std.specs.Prelude.{◌≡◌, ◌<◌, ◌≤◌, Some, IfOk, IfErr, MatchOption, map};
+ghost use Rattle.std.specs.Prelude.{◌≡◌, ◌<◌, Some, IfOk, IfErr, MatchOption, map};
 ghost use Rattle.c_tree.specs.Checked.{IsChecked};
-ghost use Rattle.c_tree.specs.Nodes.{node_count};
 ghost use Rattle.c_tree.specs.declared.resolved.RStmt.{RStmt};
 ghost use Rattle.ckpt_program.specs.Check as spec;
 ghost use Rattle.ckpt_program.specs.Check.{HasFewNodes, IsRefused};
@@ -9,7 +8,6 @@ use c_tree::{
     Binary, Checked, Expr, Item, MAIN_NODES, Program, RBinary, RExpr, RFunction, RStmt, Resolved,
     Stmt, node_count,
 };
-use ckpt_base::{NoMemory, Text};
 use sqlite_items::{Boxed, Items};
 use std::alloc::{AllocError, Global};
 use thiserror::Error;
@@ -38,16 +36,6 @@ impl From<AllocError> for CheckFault {
     }
 }
 
-impl From<NoMemory> for CheckFault {
-    ghost use Rattle.ckpt_program.specs.declared.check.CheckFault.TheVariants.{Memory};
-
-    ghost from_gives = { λ _ e. e ≡ Memory };
-
-    fn from(_: NoMemory) -> CheckFault {
-        CheckFault::Memory
-    }
-}
-
 /// Answers the resolved tree of a program that keeps the rules. After a fault the program is spent.
 pub fn check(alloc: Global, program: Program) -> Result<Checked, CheckFault>
     requires nodes { HasFewNodes program }
@@ -62,27 +50,9 @@ pub fn check(alloc: Global, program: Program) -> Result<Checked, CheckFault>
     if nodes > MAIN_NODES {
         return Err(CheckFault::TooManyNodes(nodes));
     }
-    let name = Text::of(alloc, "main")?;
-    Ok(Checked::of(tree_of(alloc, name, body)))
-}
-
-/// A program with no objects and no functions but `main`.
-fn tree_of(alloc: Global, name: Text, body: RStmt) -> Resolved
-    requires few { node_count body ≤ 2048 }
-    ensures checked { IsChecked result }
-    ensures answer { result ≡ spec.with_main name body }
-{
-    Resolved {
-        objects: Items::new(alloc),
-        functions: Items::new(alloc),
-        main: RFunction {
-            name,
-            gives_pointer: false,
-            parameters: 0,
-            locals: Items::new(alloc),
-            body,
-        },
-    }
+    Ok(Checked::of(Resolved {
+        main: RFunction { body },
+    }))
 }
 
 /// The statements of `main`, where there is one.
