@@ -1,0 +1,23 @@
+//! The trees of a program and the definitions of its language.
+//!
+//! A text is a list of tokens (`Token`), and the tokens spell a tree (`Program`). `specs/` says which tokens a text has
+//! (`Scan`), and which trees they spell (`Expressions`, `Statements`, `Programs`), in the order in which they are read.
+//!
+//! A tree that keeps the rules of the language is `Checked`: it holds a resolved tree (`Resolved`), in which names are
+//! numbers. What a program does is `meaning` (`specs/Meaning`), said on the resolved tree.
+#![tactic(auto)]
+
+mod checked;
+mod nodes;
+mod resolved;
+mod token;
+mod tree;
+
+pub use checked::{Checked, MAIN_NODES};
+pub use nodes::node_count;
+pub use resolved::{
+    ObjectKind, RArm, RAssign, RBinary, RExpr, RFunction, RLocal, RObject, RPlace, RStmt, RUnary,
+    Resolved,
+};
+pub use token::{Kind, Piece, Token};
+pub use tree::{Binary, Expr, Item, Program, Stmt};
