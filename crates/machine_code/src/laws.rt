@@ -1,11 +1,12 @@
 // Laws of the definitions: functions that do nothing, whose contracts are theorems.
 
 ghost use Rattle.std.specs.Prelude.{ℕ, List, Bool, Some, slice_get, ◌≡◌};
+ghost use Rattle.ckpt_base.specs.Run.{Run};
 ghost use Rattle.machine_code.specs.declared.instr.Instr.{Instr};
 ghost use Rattle.machine_code.specs.CodeView.{CodeView};
 ghost use Rattle.machine_code.specs.State.{State};
 ghost use Rattle.machine_code.specs.Row.{row};
-ghost use Rattle.machine_code.specs.Run.{World, Reaches, after_row, fed};
+ghost use Rattle.machine_code.specs.Run.{World, Reaches, CodeRun, after_row, fed};
 ghost use Rattle.machine_code.specs.RunLaws.{IsPlainOrStill};
 
 /// Whatever pages are protected, an instruction does what it does with none, or leaves everything.
@@ -18,4 +19,9 @@ pub fn runs_go_on()
     ensures joined { (c : CodeView) (w v u : World) → Reaches c w v → Reaches c v u → Reaches c w u }
     ensures fed { (c : CodeView) (w v : World) → slice_get c.instrs v.state.place ≡ Some Instr.In → Reaches c w v → Reaches c w (fed v v.input) }
     ensures row { (c : CodeView) (protected : ℕ → Bool) (w v : World) (i : Instr) → slice_get c.instrs v.state.place ≡ Some i → Reaches c w v → Reaches c w (after_row v (row c protected v.state v.memory i)) }
+{}
+
+/// A run of a code gives one answer.
+pub fn runs_give_one_answer()
+    ensures law { (c : CodeView) (w : World) (n : ℕ) (r q : Run) → CodeRun c w n r → CodeRun c w n q → r ≡ q }
 {}

@@ -20,5 +20,5 @@ mod valid;
 pub use code::Code;
 pub use event::{Caller, Event};
 pub use instr::Instr;
-pub use laws::{rows_are_plain, runs_go_on};
+pub use laws::{rows_are_plain, runs_give_one_answer, runs_go_on};
 pub use lines::listing;
