@@ -1,1 +1,5 @@
+pub mod Agree
+pub mod Did
 pub mod Going
+pub mod Enter
+pub mod Turn

@@ -7,9 +7,10 @@
 #![tactic(auto)]
 
 mod evaluator;
+mod memory;
+mod progress;
 mod run;
-#[cfg(test)]
-mod tests;
 mod value;
+mod work;
 
 pub use run::{PlainRun, plain};

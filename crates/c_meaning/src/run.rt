@@ -27,7 +27,7 @@ pub fn plain(
 ) -> Result<PlainRun, NoMemory>
     ensures answer { IfOk result (λ r. IsPlain r.output.list r.ending r.ticks (meaning program.now input.now until)) }
 {
-    let mut evaluator = Evaluator::start(alloc, &program.tree().main.body, input)?;
+    let mut evaluator = Evaluator::start(alloc, program.tree(), input)?;
     let ending = evaluator.run(until)?;
     let mut output = Bytes::with_room(alloc, evaluator.output().len())?;
     output.append(evaluator.output());

@@ -8,6 +8,8 @@ pub mod Statements
 pub mod Programs
 -- how many nodes a statement has
 pub mod Nodes
+-- the cells of a program
+pub mod Layout
 -- what a checked program keeps
 pub mod Checked
 -- states, values of expressions, single statements

@@ -41,7 +41,7 @@ tokens (Some f) = tokens_main f
 
 abbrev pub items : Option MainForm → List Item
 items None = []
-items (Some f) = item.Main (stmt.trees f.body) ∷ []
+items (Some f) = item.Main 0 (stmt.trees f.body) ∷ []
 
 -- the block of a function does not count
 abbrev pub depth : Option MainForm → ℕ

@@ -2,6 +2,7 @@
 use Rattle.std.specs.Prelude.{ℕ, ◌+◌, max, List, [], ◌∷◌, ◌++◌}
 use Rattle.c_tree.specs.declared.token.Token.{Token}
 use Rattle.c_tree.specs.declared.token.Kind.TheVariants as kind
+use Rattle.c_tree.specs.declared.tree.Given.TheVariants as given
 use Rattle.c_tree.specs.declared.tree.Stmt.{Stmt}
 use Rattle.c_tree.specs.declared.tree.Stmt.TheVariants as stmt
 use Rattle.c_tree.specs.Scan.{at}
@@ -32,7 +33,7 @@ tokens_all (Then s fs) = tokens s ++ tokens_all fs
 abbrev pub tree : StmtForm → Stmt
 tree (Empty e) = stmt.Empty e
 tree (Put l o f c e) = stmt.Put l (expr.tree f)
-tree (Return l f e) = stmt.Return l (expr.tree f)
+tree (Return l f e) = stmt.Return l (given.Value (expr.tree f))
 
 abbrev pub trees : StmtForms → List Stmt
 trees End = []

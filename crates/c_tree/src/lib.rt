@@ -15,6 +15,12 @@ mod tree;
 
 pub use checked::{Checked, MAIN_NODES};
 pub use nodes::node_count;
-pub use resolved::{RBinary, RExpr, RFunction, RStmt, Resolved};
+pub use resolved::{
+    Direction, Exprs, ObjectKind, RArm, RAssign, RBinary, RExpr, RFunction, RInit, RLocal, RObject,
+    RPlace, RStmt, RUnary, Resolved,
+};
 pub use token::{Kind, Piece, Token};
-pub use tree::{Binary, Expr, Item, Program, Stmt};
+pub use tree::{
+    Arm, Assign, Binary, Callee, Constant, Expr, Function, Given, Init, Item, Length, LocalDecl,
+    Name, ObjectDecl, ObjectForm, Parameter, Pieces, Place, PrintPiece, Program, Stmt, Unary,
+};

@@ -33,6 +33,36 @@ pub enum Kind {
     Minus,
     /// `*`
     Star,
+    /// `/`
+    Slash,
+    /// `%`
+    Percent,
+    /// `<<`
+    ShiftLeft,
+    /// `>>`
+    ShiftRight,
+    /// `<`
+    Less,
+    /// `<=`
+    AtMost,
+    /// `>`
+    Greater,
+    /// `>=`
+    AtLeast,
+    /// `==`
+    EqualEqual,
+    /// `!=`
+    Unequal,
+    /// `&`
+    Ampersand,
+    /// `^`
+    Caret,
+    /// `|`
+    Bar,
+    /// `&&`
+    AndAnd,
+    /// `||`
+    OrOr,
 }
 
 /// A token and the line it stands in, counted from 1.

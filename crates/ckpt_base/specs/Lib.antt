@@ -12,6 +12,8 @@ pub mod ShelfFiles
 pub mod Trap
 -- the operators on words
 pub mod Word
+-- words that are pointers
+pub mod Pointer
 -- what a run does that shows
 pub mod Event
 -- what a run gives, and its output

@@ -1,5 +1,6 @@
 -- What contracts see of a code.
 use Rattle.std.specs.Prelude.{◌≡◌, ℕ, ◌==◌, ◌≤◌, max, nat_le, List, [], ◌∷◌, if◌then◌else◌}
+use Rattle.ckpt_base.specs.Pointer.{Object}
 use Rattle.machine_code.specs.declared.instr.Instr.{Instr}
 
 -- a function: its start, how many parameters it has, and how many locals, its parameters among them
@@ -14,16 +15,6 @@ parameters f = f.1
 
 abbrev pub locals : Function → ℕ
 locals f = f.2
-
--- an object: its first cell and its length
-abbrev pub Object : Type 0
-Object = ℕ × ℕ
-
-abbrev pub first_cell : Object → ℕ
-first_cell o = o.0
-
-abbrev pub object_length : Object → ℕ
-object_length o = o.1
 
 -- a checkpoint: its node, and the place after its instruction
 abbrev pub Checkpoint : Type 0

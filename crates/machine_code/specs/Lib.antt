@@ -8,8 +8,6 @@ pub mod Valid
 pub mod Memory
 -- where a machine stands
 pub mod State
--- words that are pointers
-pub mod Pointer
 -- what each instruction does
 pub mod Row
 -- runs of a code over a plain memory

@@ -3,7 +3,8 @@ use Rattle.std.specs.Prelude.{ℕ, ◌+◌, ◌<◌, ◌≤◌}
 use Rattle.std.specs.List.{All}
 use Rattle.machine_code.specs.declared.instr.Instr.{Instr}
 use Rattle.machine_code.specs.declared.instr.Instr.TheVariants.{LoadC, StoreC}
-use Rattle.machine_code.specs.CodeView.{CodeView, first_cell, object_length}
+use Rattle.ckpt_base.specs.Pointer.{first_cell, object_length}
+use Rattle.machine_code.specs.CodeView.{CodeView}
 
 -- a cell that the instruction names is one of n
 abbrev pub CellWithin : ℕ → Instr → Type 0

@@ -13,7 +13,7 @@ use Rattle.machine_code.specs.declared.event.Event.{Event}
 use Rattle.machine_code.specs.declared.event.Event.TheVariants.{Ran, Ticked, WriteFault, Out, OutNumber, WantsInput, Checkpoint, Exclude, Ended, Trapped}
 use Rattle.machine_code.specs.CodeView.{CodeView, Function, start, parameters, locals}
 use Rattle.machine_code.specs.State.{State, top, given, spent}
-use Rattle.machine_code.specs.Pointer.{pointer_word, moved, cell_of}
+use Rattle.ckpt_base.specs.Pointer.{pointer_word, moved, cell_of}
 
 -- what an instruction leaves: where the machine stands, the memory, what the machine answers, and what of the run it shows
 pub record Done : Type 0 where

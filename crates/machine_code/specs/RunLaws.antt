@@ -14,7 +14,7 @@ use Rattle.machine_code.specs.declared.event.Event.TheVariants.{Ran, Ticked, Wri
 use Rattle.machine_code.specs.declared.event.Caller.{Caller}
 use Rattle.machine_code.specs.CodeView.{CodeView, Function}
 use Rattle.machine_code.specs.State.{State, top, given, spent}
-use Rattle.machine_code.specs.Pointer.{cell_of}
+use Rattle.ckpt_base.specs.Pointer.{cell_of}
 use Rattle.machine_code.specs.Row.{Done, row, stored, put, ran, trapped, answered, fetched, called, entered, returned, told}
 use Rattle.machine_code.specs.Run.{World, unprotected, fed, after_row, after_instr, after_one, after, Reaches, row_at, next_row, run_at, StopsBy, Stops, CodeRun}
 

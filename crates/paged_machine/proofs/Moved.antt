@@ -8,7 +8,7 @@ use Rattle.std.proofs.lemmas.Bool.{cases_lt}
 use Rattle.std.proofs.lemmas.Bool.Decides.{nat_tests}
 use Rattle.ckpt_base.specs.declared.trap.Trap.TheVariants.{OutsideObject}
 use Rattle.ckpt_base.specs.Word.{signed}
-use Rattle.machine_code.specs.Pointer.{at_place}
+use Rattle.ckpt_base.specs.Pointer.{at_place}
 
 -- a place behind the object is none
 too_far : (p len k : ℕ) → len < k → at_place p len (pos k) ≡ Err OutsideObject

@@ -4,7 +4,8 @@ use Rattle.std.specs.List.{All}
 use Rattle.ckpt_base.specs.declared.trap.Trap.{Trap}
 use Rattle.machine_code.specs.declared.instr.Instr.{Instr}
 use Rattle.machine_code.specs.declared.instr.Instr.TheVariants.{Addr, LoadC, StoreC, LoadL, StoreL, Call, Ret}
-use Rattle.machine_code.specs.CodeView.{CodeView, Function, parameters, locals, first_cell, object_length}
+use Rattle.ckpt_base.specs.Pointer.{first_cell, object_length}
+use Rattle.machine_code.specs.CodeView.{CodeView, Function, parameters, locals}
 use Rattle.machine_code.specs.Needs.{needs, gives}
 use Rattle.paged_machine.specs.MachineView.{MachineView}
 

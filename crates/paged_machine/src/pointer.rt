@@ -2,8 +2,8 @@
 
 ghost use Rattle.std.specs.Prelude.{◌≡◌, ◌+◌, ◌^◌, ◌<◌, ◌≤◌, if◌then◌else◌, nat_le, neg_ℤ, pos, ◌+ℤ◌, Err};
 ghost use Rattle.ckpt_base.specs.Word.{signed};
-ghost use Rattle.machine_code.specs.Pointer as spec;
-ghost use Rattle.machine_code.specs.Pointer.{at_place, place_of};
+ghost use Rattle.ckpt_base.specs.Pointer as spec;
+ghost use Rattle.ckpt_base.specs.Pointer.{at_place, place_of};
 
 use ckpt_base::Trap;
 use machine_code::Code;

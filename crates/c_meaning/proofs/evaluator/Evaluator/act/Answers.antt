@@ -1,14 +1,14 @@
-use Rattle.c_meaning.proofs.Going.{put_trapped, put_done, return_trapped, return_done}
+use Rattle.std.proofs.Common.{subst}
+use Rattle.c_meaning.specs.declared.work.Task.{Task}
+use Rattle.c_meaning.specs.Working.{From, does_task, calls}
+use Rattle.c_meaning.proofs.Turn.{return_done}
 use Rattle.c_meaning.proofs.evaluator.Evaluator.act.Goals as goal
 
-pub returns-in-Err-clause-acted : goal.returns-in-Err-clause-acted
-returns-in-Err-clause-acted c = put_trapped c.in-Put.expr c.value.result c.value.ensures.answer c.in-Err.trap c.number.result c.in-Err.is c.number.ensures.answer c.args.task c.args.self.now c.in-Put.is
-
-pub returns-in-Err-value-clause-acted : goal.returns-in-Err-value-clause-acted
-returns-in-Err-value-clause-acted c = return_trapped c.in-Return.expr c.value-in-Return.result c.value-in-Return.ensures.answer c.in-Err-value.trap c.number-in-Err-value.result c.in-Err-value.is c.number-in-Err-value.ensures.answer c.args.task c.args.self.now c.in-Return.is
-
-pub returns-in_ok-push-in-Ok-clause-acted : goal.returns-in_ok-push-in-Ok-clause-acted
-returns-in_ok-push-in-Ok-clause-acted c = put_done c.in-Put.expr c.value.result c.value.ensures.answer c.in-Ok.a c.in-Ok.is c.args.task c.args.self.now c.low_byte.result c.push.new.self c.in-Put.is c.low_byte.ensures.answer c.in_ok-push-in-Ok.ensures.ok
-
 pub returns-in-Ok-value-clause-acted : goal.returns-in-Ok-value-clause-acted
-returns-in-Ok-value-clause-acted c = rw c.ended.ensures.answer (return_done c.in-Return.expr c.value-in-Return.result c.value-in-Return.ensures.answer c.in-Ok-value.a c.in-Ok-value.is c.args.task c.args.self.now c.in-Return.is)
+returns-in-Ok-value-clause-acted c = return_done c.args.self.now c.args.task c.in-Return.expr c.in-Ok-value.a c.ended.result c.in-Return.is c.in-Ok-value.ensures.answer c.ended.ensures.answer
+
+pub returns-in_ok-end-in-Choose-clause-acted : goal.returns-in_ok-end-in-Choose-clause-acted
+returns-in_ok-end-in-Choose-clause-acted c m n r f = c.in_ok-end-in-Choose.ensures.acted m n r (subst (λ (t : Task). From (does_task (calls c.args.self.now) t m) c.args.self.now n r) c.in-Choose.is f)
+
+pub returns-in_ok-end-in-Turn-clause-acted : goal.returns-in_ok-end-in-Turn-clause-acted
+returns-in_ok-end-in-Turn-clause-acted c m n r f = c.in_ok-end-in-Turn.ensures.acted m n r (subst (λ (t : Task). From (does_task (calls c.args.self.now) t m) c.args.self.now n r) c.in-Turn.is f)

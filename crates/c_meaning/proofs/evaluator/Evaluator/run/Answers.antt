@@ -5,5 +5,5 @@ use Rattle.c_meaning.proofs.evaluator.Evaluator.run.Goals as goal
 
 pub returns-in-Some : goal.returns-in-Some
 returns-in-Some c = record {
-  answer = λ r x. subst (λ (o : Option Ending). Acted o c.step.new.self (c.args.until - c.step.new.self.ticks) r) c.in-Some.is (c.in_ok-ending.ensures.stepped r (c.steps.invariant.1 r x));
+  answer = λ r x. subst (λ (o : Option Ending). Acted o c.step.new.self (c.args.until - c.step.new.self.progress.ticks) r) c.in-Some.is (c.in_ok-ending.ensures.stepped r (c.steps.invariant.1 r x));
 }

@@ -1,11 +1,11 @@
-use Rattle.std.proofs.Common.{ℕ}
+use Rattle.std.proofs.Common.{◌≡◌, ℕ}
 use Rattle.ckpt_base.specs.Run.{Run}
-use Rattle.c_meaning.specs.Working.{todo, Same, Stands, weights}
+use Rattle.c_meaning.specs.Working.{todo, Stands, weights}
 use Rattle.c_meaning.proofs.evaluator.Evaluator.settle.Given as goal
 
 -- the run goes on as it did
 abbrev pub invariant-items : goal.invariant-items
-invariant-items l = Same l.fn.self l.self × ((n : ℕ) (r : Run) → Stands l.fn.self n r → Stands l.self n r)
+invariant-items l = (l.self.progress ≡ l.fn.self.progress) × ((n : ℕ) (r : Run) → Stands l.fn.self n r → Stands l.self n r)
 
 abbrev pub decreases-items : goal.decreases-items
 decreases-items l = weights (todo l.self)

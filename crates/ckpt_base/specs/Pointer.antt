@@ -2,7 +2,16 @@
 use Rattle.std.specs.Prelude.{ℕ, ◌+◌, ◌-◌, ◌*◌, ◌/◌, ◌%◌, ◌^◌, ℤ, pos, negsuc, ◌+ℤ◌, List, Option, Some, None, Result, Ok, Err, if◌then◌else◌, ◌==◌, nat_lt, nat_le, slice_get}
 use Rattle.ckpt_base.specs.declared.trap.Trap.{Trap}
 use Rattle.ckpt_base.specs.declared.trap.Trap.TheVariants.{OutsideObject, NullPointer}
-use Rattle.machine_code.specs.CodeView.{Object, first_cell, object_length}
+
+-- where an object stands in memory: its first cell and its length
+abbrev pub Object : Type 0
+Object = ℕ × ℕ
+
+abbrev pub first_cell : Object → ℕ
+first_cell o = o.0
+
+abbrev pub object_length : Object → ℕ
+object_length o = o.1
 
 -- the pointer to place k of object o
 abbrev pub pointer_word : ℕ → ℕ → ℕ

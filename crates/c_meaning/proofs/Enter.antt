@@ -1,0 +1,244 @@
+-- Statements that are begun.
+use Rattle.std.proofs.Common.{◌≡◌, ℕ, ◌+◌, ◌<◌, ◌≤◌, List, [], ◌∷◌, map, Option, Some, None, refl, sym, ap, ◌∙◌, arith}
+use Rattle.std.specs.Prelude.{MatchOption}
+use Rattle.std.specs.Borrow.{Bor}
+use Rattle.ckpt_base.specs.Run.{Run}
+use Rattle.c_tree.specs.declared.resolved.RAssign.{RAssign}
+use Rattle.c_tree.specs.declared.resolved.RExpr.{RExpr}
+use Rattle.c_tree.specs.declared.resolved.RPlace.{RPlace}
+use Rattle.c_tree.specs.declared.resolved.RArm.{RArm}
+use Rattle.c_tree.specs.declared.resolved.RStmt.{RStmt}
+use Rattle.c_tree.specs.declared.resolved.RStmt.TheOpen.{RStmt-F}
+use Rattle.c_tree.specs.declared.resolved.RStmt.TheFolds.{fold-roll-RStmt}
+use Rattle.c_tree.specs.declared.resolved.RStmt.TheVariants as stmt
+use Rattle.c_tree.specs.Nodes.{assign_count}
+use Rattle.c_tree.specs.State.{State, Action, Value, value, test_value, declare, set, put, assign}
+use Rattle.c_tree.specs.Meaning.{Then, Ways, Calls, Piece, ArmPiece, tick, given, acts, chooses, single, all_of, last_of, tests, loop, loop_ways, perhaps, piece_at, arm_at, piece, calls_within}
+use Rattle.c_meaning.specs.declared.progress.Progress.{Progress}
+use Rattle.c_meaning.specs.declared.evaluator.Evaluator.{Evaluator}
+use Rattle.c_meaning.specs.declared.work.Loop.{Loop}
+use Rattle.c_meaning.specs.declared.work.Item.{Item}
+use Rattle.c_meaning.specs.declared.work.Item.TheVariants as item
+use Rattle.c_meaning.specs.Memory.{test_of}
+use Rattle.c_meaning.specs.Working.{todo, calls, before, first, others, ways, ways_on, update_of, looping, turn_ways, arm_piece, last_piece, From, Stands, Skipped, size, size_at, total, last_size, last_weight, weight, weights}
+use Rattle.c_meaning.proofs.Agree.{piece_steady, calls_steady, unrolls}
+use Rattle.c_meaning.proofs.Going.{moved, added}
+
+-- ---- the equations of a statement
+
+module _ (c : Calls) where
+  pub piece_block : (ss : List RStmt) → piece c (stmt.Block ss) ≡ piece_at c (RStmt-F.Block (map (piece c) ss))
+  piece_block ss = ap (piece c) (sym (stmt.rolls-Block ss)) ∙ fold-roll-RStmt Piece ArmPiece (piece_at c) (arm_at c) (RStmt-F.Block ss)
+
+  piece_while : (x : RExpr) (b : RStmt) → piece c (stmt.While x b) ≡ piece_at c (RStmt-F.While x (piece c b))
+  piece_while x b = ap (piece c) (sym (stmt.rolls-While x b)) ∙ fold-roll-RStmt Piece ArmPiece (piece_at c) (arm_at c) (RStmt-F.While x b)
+
+  piece_do : (b : RStmt) (x : RExpr) → piece c (stmt.Do b x) ≡ piece_at c (RStmt-F.Do (piece c b) x)
+  piece_do b x = ap (piece c) (sym (stmt.rolls-Do b x)) ∙ fold-roll-RStmt Piece ArmPiece (piece_at c) (arm_at c) (RStmt-F.Do b x)
+
+  piece_for : (i : Option RAssign) (x : Option RExpr) (u : Option RAssign) (b : RStmt) → piece c (stmt.For i x u b) ≡ piece_at c (RStmt-F.For i x u (piece c b))
+  piece_for i x u b = ap (piece c) (sym (stmt.rolls-For i x u b)) ∙ fold-roll-RStmt Piece ArmPiece (piece_at c) (arm_at c) (RStmt-F.For i x u b)
+
+  piece_if : (arms : List RArm) (last : Option RStmt) → (m : ℕ) (w : Ways) → (piece c (stmt.If arms last)).does m w ≡ tests (map (arm_piece c) arms) (last_piece c last) m w
+  piece_if arms None m w = ap (λ (p : Piece). p.does m w) (ap (piece c) (sym (stmt.rolls-If arms None)) ∙ fold-roll-RStmt Piece ArmPiece (piece_at c) (arm_at c) (RStmt-F.If arms None))
+  piece_if arms (Some s) m w = ap (λ (p : Piece). p.does m w) (ap (piece c) (sym (stmt.rolls-If arms (Some s))) ∙ fold-roll-RStmt Piece ArmPiece (piece_at c) (arm_at c) (RStmt-F.If arms (Some s)))
+
+  piece_empty : piece c stmt.Empty ≡ piece_at c RStmt-F.Empty
+  piece_empty = ap (piece c) (sym stmt.rolls-Empty) ∙ fold-roll-RStmt Piece ArmPiece (piece_at c) (arm_at c) RStmt-F.Empty
+
+  piece_break : piece c stmt.Break ≡ piece_at c RStmt-F.Break
+  piece_break = ap (piece c) (sym stmt.rolls-Break) ∙ fold-roll-RStmt Piece ArmPiece (piece_at c) (arm_at c) RStmt-F.Break
+
+  piece_continue : piece c stmt.Continue ≡ piece_at c RStmt-F.Continue
+  piece_continue = ap (piece c) (sym stmt.rolls-Continue) ∙ fold-roll-RStmt Piece ArmPiece (piece_at c) (arm_at c) RStmt-F.Continue
+
+  piece_declare : (p : RPlace) (x : Option RExpr) → piece c (stmt.Declare p x) ≡ piece_at c (RStmt-F.Declare p x)
+  piece_declare p x = ap (piece c) (sym (stmt.rolls-Declare p x)) ∙ fold-roll-RStmt Piece ArmPiece (piece_at c) (arm_at c) (RStmt-F.Declare p x)
+
+  piece_set : (p : RPlace) (x : RExpr) → piece c (stmt.Set p x) ≡ piece_at c (RStmt-F.Set p x)
+  piece_set p x = ap (piece c) (sym (stmt.rolls-Set p x)) ∙ fold-roll-RStmt Piece ArmPiece (piece_at c) (arm_at c) (RStmt-F.Set p x)
+
+  piece_put : (x : RExpr) → piece c (stmt.Put x) ≡ piece_at c (RStmt-F.Put x)
+  piece_put x = ap (piece c) (sym (stmt.rolls-Put x)) ∙ fold-roll-RStmt Piece ArmPiece (piece_at c) (arm_at c) (RStmt-F.Put x)
+
+  piece_return : (x : RExpr) → piece c (stmt.Return x) ≡ piece_at c (RStmt-F.Return x)
+  piece_return x = ap (piece c) (sym (stmt.rolls-Return x)) ∙ fold-roll-RStmt Piece ArmPiece (piece_at c) (arm_at c) (RStmt-F.Return x)
+
+-- ---- statements that take a tick at once
+
+-- what a run does that comes to a tick
+abbrev pub Ticks : (ℕ → Ways → Then) → Evaluator → ℕ → Run → Type 0
+Ticks go e n r = (k : ℕ) × From (λ w. tick (go k w)) e n r
+
+ticks : (e : Evaluator) (go : Ways → Then) (to : ℕ → Ways → Then) (k n : ℕ) (r : Run) → ((w : Ways) → go w ≡ tick (to k w)) → From go e n r → Ticks to e n r
+ticks e go to k n r h x = (k, moved e e go (λ w. tick (to k w)) (λ ms. ms) n r refl (λ ms s n. ap (λ (f : Then). f s n) (h (ways_on e ms))) x)
+
+module _ (e : Evaluator) (s : RStmt) where
+  pub declare_ticks : (p : RPlace) (x : Option RExpr) → s ≡ stmt.Declare p x → (m n : ℕ) (r : Run) → From ((piece (calls e) s).does m) e n r → Ticks (λ k w. acts (declare p x) w.next) e n r
+  declare_ticks p x is m n r = ticks e _ (λ k w. acts (declare p x) w.next) m n r (λ w. ap (λ (q : Piece). q.does m w) (ap (piece (calls e)) is ∙ piece_declare (calls e) p x))
+
+  pub set_ticks : (p : RPlace) (x : RExpr) → s ≡ stmt.Set p x → (m n : ℕ) (r : Run) → From ((piece (calls e) s).does m) e n r → Ticks (λ k w. acts (set p x) w.next) e n r
+  set_ticks p x is m n r = ticks e _ (λ k w. acts (set p x) w.next) m n r (λ w. ap (λ (q : Piece). q.does m w) (ap (piece (calls e)) is ∙ piece_set (calls e) p x))
+
+  pub put_ticks : (x : RExpr) → s ≡ stmt.Put x → (m n : ℕ) (r : Run) → From ((piece (calls e) s).does m) e n r → Ticks (λ k w. acts (put x) w.next) e n r
+  put_ticks x is m n r = ticks e _ (λ k w. acts (put x) w.next) m n r (λ w. ap (λ (q : Piece). q.does m w) (ap (piece (calls e)) is ∙ piece_put (calls e) x))
+
+  pub return_ticks : (x : RExpr) → s ≡ stmt.Return x → (m n : ℕ) (r : Run) → From ((piece (calls e) s).does m) e n r → Ticks (λ k w s n. given (value x s.variables) s (λ a. w.back a s n)) e n r
+  return_ticks x is m n r = ticks e _ (λ k w s n. given (value x s.variables) s (λ a. w.back a s n)) m n r (λ w. ap (λ (q : Piece). q.does m w) (ap (piece (calls e)) is ∙ piece_return (calls e) x))
+
+-- ---- loops
+
+-- a turn of a loop
+abbrev pub turning : Calls → Option (Bor RExpr) → Option (Bor RAssign) → RStmt → ℕ → Ways → Then
+turning c x u b k w = chooses (test_of x) ((piece c b).does k (loop_ways (update_of u (loop (test_of x) ((piece c b).does k) (update_of u) w)) w)) w.next
+
+turns_are : (e : Evaluator) (x : Option (Bor RExpr)) (u : Option (Bor RAssign)) (b : RStmt) (k : ℕ) (w : Ways) (s : State) (n : ℕ) → loop (test_of x) ((piece (calls e) b).does k) (update_of u) w s n ≡ tick (turning (calls e) x u b k w) s n
+turns_are e x None b k w s n = unrolls (test_of x) ((piece (calls e) b).does k) None (piece_steady (calls e) (calls_steady e.progress.functions.now 1000) b k) w s n
+turns_are e x (Some a) b k w s n = unrolls (test_of x) ((piece (calls e) b).does k) (Some a.now) (piece_steady (calls e) (calls_steady e.progress.functions.now 1000) b k) w s n
+
+-- a loop comes to its test
+pub loop_ticks : (e : Evaluator) (x : Option (Bor RExpr)) (u : Option (Bor RAssign)) (b : RStmt) (go : Ways → Then) (k n : ℕ) (r : Run) → ((w : Ways) → go w ≡ loop (test_of x) ((piece (calls e) b).does k) (update_of u) w)
+    → From go e n r → Ticks (turning (calls e) x u b) e n r
+loop_ticks e x u b go k n r h y = (k, moved e e go (λ w. tick (turning (calls e) x u b k w)) (λ ms. ms) n r refl (λ ms s n. ap (λ (f : Then). f s n) (h (ways_on e ms)) ∙ turns_are e x u b k (ways_on e ms) s n) y)
+
+test_lent : (o : Option (Bor RExpr)) (x : Option RExpr) → MatchOption o (x ≡ None) (λ y. x ≡ Some y.now) → test_value x ≡ test_of o
+test_lent None x h = ap test_value h
+test_lent (Some y) x h = ap test_value h
+
+update_lent : (o : Option (Bor RAssign)) (x : Option RAssign) → MatchOption o (x ≡ None) (λ y. x ≡ Some y.now) → perhaps x ≡ update_of o
+update_lent None x h = ap perhaps h
+update_lent (Some y) x h = ap perhaps h
+
+module _ (e : Evaluator) (s : RStmt) where
+  pub while_ticks : (x : RExpr) (b b' : RStmt) → b ≡ b' → s ≡ stmt.While x b' → (m n : ℕ) (r : Run) → From ((piece (calls e) s).does m) e n r
+      → Ticks (λ k w. chooses (test_value (Some x)) ((piece (calls e) b).does k (loop_ways (perhaps None (loop (test_value (Some x)) ((piece (calls e) b).does k) (perhaps None) w)) w)) w.next) e n r
+  while_ticks x b b' bs is m n r y =
+      let k = m + 1 in
+      let to = λ (w : Ways). chooses (test_value (Some x)) ((piece (calls e) b).does k (loop_ways (perhaps None (loop (test_value (Some x)) ((piece (calls e) b).does k) (perhaps None) w)) w)) w.next in
+      (k, moved e e _ (λ w. tick (to w)) (λ ms. ms) n r refl (λ ms s' n.
+      ap (λ (q : Piece). q.does m (ways_on e ms) s' n) (ap (piece (calls e)) (is ∙ ap (stmt.While x) (sym bs)) ∙ piece_while (calls e) x b)
+      ∙ unrolls (test_value (Some x)) ((piece (calls e) b).does k) None (piece_steady (calls e) (calls_steady e.progress.functions.now 1000) b k) (ways_on e ms) s' n) y)
+
+  module _ (o : Option (Bor RExpr)) (ou : Option (Bor RAssign)) (x : Option RExpr) (u : Option RAssign) (b b' : RStmt) (hx : MatchOption o (x ≡ None) (λ y. x ≡ Some y.now)) (hu : MatchOption ou (u ≡ None) (λ y. u ≡ Some y.now)) (bs : b ≡ b') where
+    for_is : (i : Option RAssign) (m : ℕ) (w : Ways) → s ≡ stmt.For i x u b'
+        → (piece (calls e) s).does m w ≡ perhaps i (loop (test_of o) ((piece (calls e) b).does (m + assign_count i + 1 + assign_count u)) (update_of ou) w)
+    for_is i m w is =
+        ap (λ (q : Piece). q.does m w) (ap (piece (calls e)) (is ∙ ap (stmt.For i x u) (sym bs)) ∙ piece_for (calls e) i x u b)
+        ∙ ap (λ (v : Value). perhaps i (loop v ((piece (calls e) b).does (m + assign_count i + 1 + assign_count u)) (perhaps u) w)) (test_lent o x hx)
+        ∙ ap (λ (f : Then → Then). perhaps i (loop (test_of o) ((piece (calls e) b).does (m + assign_count i + 1 + assign_count u)) f w)) (update_lent ou u hu)
+
+    pub for_ticks : (i : Option RAssign) → i ≡ None → s ≡ stmt.For i x u b' → (m n : ℕ) (r : Run) → From ((piece (calls e) s).does m) e n r → Ticks (turning (calls e) o ou b) e n r
+    for_ticks i none is m n r = loop_ticks e o ou b _ (m + assign_count None + 1 + assign_count u) n r (λ w. for_is None m w (is ∙ ap (λ (j : Option RAssign). stmt.For j x u b') none))
+
+    pub first_ticks : (i : Option RAssign) (a : RAssign) (e' : Evaluator) (l : Loop) → l.test ≡ o → l.update ≡ ou → l.body.now ≡ b → i ≡ Some a → s ≡ stmt.For i x u b' → e'.progress ≡ e.progress → todo e' ≡ item.Turn l ∷ todo e
+        → (m n : ℕ) (r : Run) → From ((piece (calls e) s).does m) e n r → Ticks (λ k w. acts (set a.place a.value) w.next) e' n r
+    first_ticks i a e' l lt lu lb some is same t m n r y =
+        let k = m + assign_count (Some a) + 1 + assign_count u in
+        (m, moved e e' _ (λ w. tick (acts (set a.place a.value) w.next)) (λ ms. k ∷ ms) n r same (λ ms s' n.
+        ap (λ (f : Then). f s' n) (for_is (Some a) m (ways_on e ms) (is ∙ ap (λ (j : Option RAssign). stmt.For j x u b') some)
+        ∙ ap (λ (f : Then). single (assign a) f)
+        (ap (λ (z : Option (Bor RExpr)). loop (test_of z) ((piece (calls e) b).does k) (update_of ou) (ways_on e ms)) (sym lt)
+        ∙ ap (λ (z : Option (Bor RAssign)). loop (test_of l.test) ((piece (calls e) b).does k) (update_of z) (ways_on e ms)) (sym lu)
+        ∙ ap (λ (z : RStmt). loop (test_of l.test) ((piece (calls e) z).does k) (update_of l.update) (ways_on e ms)) (sym lb)))
+        ∙ ap (λ (w : Ways). tick (acts (set a.place a.value) w.next) s' n) (sym (added e e' (item.Turn l) same t k ms))) y)
+
+  pub do_stands : (x : RExpr) (b : RStmt) (c : Bor RStmt) (l : Loop) (e1 e2 : Evaluator) → c.now ≡ b → l.body.now ≡ b → test_of l.test ≡ test_value (Some x) → update_of l.update ≡ perhaps None → s ≡ stmt.Do b x
+      → e1.progress ≡ e.progress → todo e1 ≡ item.Again l ∷ todo e → e2.progress ≡ e1.progress → todo e2 ≡ item.One c ∷ todo e1
+      → (m n : ℕ) (r : Run) → From ((piece (calls e) s).does m) e n r → Stands e2 n r
+  do_stands x b c l e1 e2 cs ls xs us is same1 t1 same2 t2 m n r y = moved e e2 _ (λ w. w.next) (λ ms. m ∷ (m ∷ ms)) n r (same2 ∙ same1) (λ ms s' n.
+      ap (λ (f : Then). f s' n) (
+      ap (λ (q : Piece). q.does m (ways_on e ms)) (ap (piece (calls e)) is ∙ piece_do (calls e) b x)
+      ∙ ap (λ (v : Value). (piece (calls e) b).does m (loop_ways (loop v ((piece (calls e) b).does m) (perhaps None) (ways_on e ms)) (ways_on e ms))) (sym xs)
+      ∙ ap (λ (f : Then → Then). (piece (calls e) b).does m (loop_ways (f (loop (test_of l.test) ((piece (calls e) b).does m) f (ways_on e ms))) (ways_on e ms))) (sym us)
+      ∙ ap (λ (z : RStmt). (piece (calls e) b).does m (loop_ways (update_of l.update (loop (test_of l.test) ((piece (calls e) z).does m) (update_of l.update) (ways_on e ms))) (ways_on e ms))) (sym ls)
+      ∙ ap (λ (z : RStmt). (piece (calls e) z).does m (turn_ways (calls e) l m (ways_on e ms))) (sym cs)
+      ∙ ap (λ (w : Ways). (piece (calls e) c.now).does m w) (sym (added e e1 (item.Again l) same1 t1 m ms))
+      ∙ ap (λ (p : Progress). (piece (calls (record e { progress = p })) c.now).does m (ways_on e1 (m ∷ ms))) (sym same1)
+      ∙ ap (λ (w : Ways). w.next) (sym (added e1 e2 (item.One c) same2 t2 m (m ∷ ms))))) y
+
+  -- a block is its statements
+  pub block_stands : (ss : List RStmt) (b : Bor (List RStmt)) (e' : Evaluator) → s ≡ stmt.Block ss → b.now ≡ ss → e'.progress ≡ e.progress → todo e' ≡ item.Rest b ∷ todo e
+      → (m n : ℕ) (r : Run) → From ((piece (calls e) s).does m) e n r → Stands e' n r
+  block_stands ss b e' is bs same t m n r = moved e e' _ (λ w. w.next) (λ ms. m ∷ ms) n r same (λ ms s' n. ap (λ (f : Then). f s' n) (
+      ap (λ (q : Piece). q.does m (ways_on e ms)) (ap (piece (calls e)) (is ∙ ap stmt.Block (sym bs)) ∙ piece_block (calls e) b.now)
+      ∙ ap (λ (w : Ways). w.next) (sym (added e e' (item.Rest b) same t m ms))))
+
+  pub empty_stands : s ≡ stmt.Empty → (m n : ℕ) (r : Run) → From ((piece (calls e) s).does m) e n r → Stands e n r
+  empty_stands is m n r = moved e e _ (λ w. w.next) (λ ms. ms) n r refl (λ ms s' n. ap (λ (q : Piece). q.does m (ways_on e ms) s' n) (ap (piece (calls e)) is ∙ piece_empty (calls e)))
+
+  pub break_is : s ≡ stmt.Break → (m n : ℕ) (r : Run) → From ((piece (calls e) s).does m) e n r → From (λ w. w.out_of_loop) e n r
+  break_is is m n r = moved e e _ (λ w. w.out_of_loop) (λ ms. ms) n r refl (λ ms s' n. ap (λ (q : Piece). q.does m (ways_on e ms) s' n) (ap (piece (calls e)) is ∙ piece_break (calls e)))
+
+  pub continue_is : s ≡ stmt.Continue → (m n : ℕ) (r : Run) → From ((piece (calls e) s).does m) e n r → From (λ w. w.again) e n r
+  continue_is is m n r = moved e e _ (λ w. w.again) (λ ms. ms) n r refl (λ ms s' n. ap (λ (q : Piece). q.does m (ways_on e ms) s' n) (ap (piece (calls e)) is ∙ piece_continue (calls e)))
+
+  pub if_is : (arms : List RArm) (last : Option RStmt) → s ≡ stmt.If arms last → (b : List RArm) → b ≡ arms → (m n : ℕ) (r : Run) → From ((piece (calls e) s).does m) e n r → From (tests (map (arm_piece (calls e)) b) (last_piece (calls e) last) m) e n r
+  if_is arms last is b bs m n r = moved e e _ (tests (map (arm_piece (calls e)) b) (last_piece (calls e) last) m) (λ ms. ms) n r refl (λ ms s' n. ap (λ (f : Then). f s' n) (
+      ap (λ (z : RStmt). (piece (calls e) z).does m (ways_on e ms)) is ∙ piece_if (calls e) arms last m (ways_on e ms)
+      ∙ ap (λ (z : List RArm). tests (map (arm_piece (calls e)) z) (last_piece (calls e) last) m (ways_on e ms)) (sym bs)))
+
+-- ---- an `if`
+
+module _ (e : Evaluator) (arms : List RArm) (last : Option RStmt) where
+  pub arm_ticks : (a : RArm) (more : List RArm) → arms ≡ a ∷ more → (m n : ℕ) (r : Run) → From (tests (map (arm_piece (calls e)) arms) (last_piece (calls e) last) m) e n r
+      → Ticks (λ k w. let p = arm_piece (calls e) a in chooses p.test (p.body.does (k + 1) w) (tests (map (arm_piece (calls e)) more) (last_piece (calls e) last) (k + 1 + p.body.size) w)) e n r
+  arm_ticks a more is m n r = ticks e _ (λ k w. let p = arm_piece (calls e) a in chooses p.test (p.body.does (k + 1) w) (tests (map (arm_piece (calls e)) more) (last_piece (calls e) last) (k + 1 + p.body.size) w)) m n r (λ w. ap (λ (z : List RArm). tests (map (arm_piece (calls e)) z) (last_piece (calls e) last) m w) is)
+
+  pub last_stands : (x : RStmt) (b : Bor RStmt) (e' : Evaluator) → arms ≡ [] → last ≡ Some x → b.now ≡ x → e'.progress ≡ e.progress → todo e' ≡ item.One b ∷ todo e
+      → (m n : ℕ) (r : Run) → From (tests (map (arm_piece (calls e)) arms) (last_piece (calls e) last) m) e n r → Stands e' n r
+  last_stands x b e' as' ls bs same t m n r = moved e e' _ (λ w. w.next) (λ ms. m ∷ ms) n r same (λ ms s' n. ap (λ (f : Then). f s' n) (
+      ap (λ (z : List RArm). tests (map (arm_piece (calls e)) z) (last_piece (calls e) last) m (ways_on e ms)) as'
+      ∙ ap (λ (z : Option RStmt). tests [] (last_piece (calls e) z) m (ways_on e ms)) (ls ∙ ap Some (sym bs))
+      ∙ ap (λ (w : Ways). w.next) (sym (added e e' (item.One b) same t m ms))))
+
+-- ---- loops that are left
+
+pub left : (e e' : Evaluator) (o : Option Loop) → Skipped e e' o → e'.progress ≡ e.progress → (n : ℕ) (r : Run) → From (λ w. w.out_of_loop) e n r → Stands e' n r
+left e e' None k same n r x = moved e e' (λ w. w.out_of_loop) (λ w. w.next) (λ ms. ms) n r same (λ ms s n. ap (λ (f : Then). f s n) ((k.1 ms).0 ∙ ap (λ (is : List Item). (ways (calls e') is ms).next) (sym k.0))) x
+left e e' (Some l) k same n r x = moved e e' (λ w. w.out_of_loop) (λ w. w.next) (λ ms. (k ms).1) n r same (λ ms s n. ap (λ (f : Then). f s n) (k ms).2) x
+
+pub again_none : (e e' : Evaluator) (o : Option Loop) → Skipped e e' o → o ≡ None → e'.progress ≡ e.progress → (n : ℕ) (r : Run) → From (λ w. w.again) e n r → Stands e' n r
+again_none e e' None k none same n r x = moved e e' (λ w. w.again) (λ w. w.next) (λ ms. ms) n r same (λ ms s n. ap (λ (f : Then). f s n) ((k.1 ms).1 ∙ ap (λ (is : List Item). (ways (calls e') is ms).next) (sym k.0))) x
+again_none e e' (Some l) k none same n r x = absurd cc
+
+pub again_some : (e e1 e2 : Evaluator) (l : Loop) → Skipped e e1 (Some l) → e1.progress ≡ e.progress → e2.progress ≡ e1.progress → todo e2 ≡ item.Again l ∷ todo e1 → (n : ℕ) (r : Run) → From (λ w. w.again) e n r → Stands e2 n r
+again_some e e1 e2 l k same1 same2 t n r x = moved e e2 (λ w. w.again) (λ w. w.next) (λ ms. (k ms).0 ∷ (k ms).1) n r (same2 ∙ same1) (λ ms s n. ap (λ (f : Then). f s n) ((k ms).3 ∙ ap (λ (w : Ways). w.next) (sym (added e1 e2 (item.Again l) same2 t (k ms).0 (k ms).1)))) x
+
+-- ---- less is left to do
+
+size_do : (b : RStmt) (x : RExpr) → size (stmt.Do b x) ≡ size b + 4
+size_do b x = ap size (sym (stmt.rolls-Do b x)) ∙ fold-roll-RStmt ℕ ℕ size_at (λ a. 0) (RStmt-F.Do b x)
+
+size_block : (ss : List RStmt) → size (stmt.Block ss) ≡ total (map size ss) + 2
+size_block ss = ap size (sym (stmt.rolls-Block ss)) ∙ fold-roll-RStmt ℕ ℕ size_at (λ a. 0) (RStmt-F.Block ss)
+
+size_if : (arms : List RArm) (last : Option RStmt) → size (stmt.If arms last) ≡ last_weight last + 1
+size_if arms None = ap size (sym (stmt.rolls-If arms None)) ∙ fold-roll-RStmt ℕ ℕ size_at (λ a. 0) (RStmt-F.If arms None)
+size_if arms (Some x) = ap size (sym (stmt.rolls-If arms (Some x))) ∙ fold-roll-RStmt ℕ ℕ size_at (λ a. 0) (RStmt-F.If arms (Some x))
+
+size_empty : size stmt.Empty ≡ 1
+size_empty = ap size (sym stmt.rolls-Empty) ∙ fold-roll-RStmt ℕ ℕ size_at (λ a. 0) RStmt-F.Empty
+
+size_break : size stmt.Break ≡ 1
+size_break = ap size (sym stmt.rolls-Break) ∙ fold-roll-RStmt ℕ ℕ size_at (λ a. 0) RStmt-F.Break
+
+size_continue : size stmt.Continue ≡ 1
+size_continue = ap size (sym stmt.rolls-Continue) ∙ fold-roll-RStmt ℕ ℕ size_at (λ a. 0) RStmt-F.Continue
+
+pub block_lighter : (s : RStmt) (ss : List RStmt) (b : Bor (List RStmt)) (is js : List Item) → s ≡ stmt.Block ss → b.now ≡ ss → js ≡ item.Rest b ∷ is → weights js < weights is + size s
+block_lighter s ss b is js e bs t = omega (arith, ap weights t, ap size e, size_block ss, ap (λ (v : List RStmt). total (map size v)) bs)
+
+pub do_lighter : (s b : RStmt) (x : RExpr) (c : Bor RStmt) (l : Loop) (is js ks : List Item) → s ≡ stmt.Do b x → c.now ≡ b → js ≡ item.Again l ∷ is → ks ≡ item.One c ∷ js → weights ks < weights is + size s
+do_lighter s b x c l is js ks e bs t u = omega (arith, ap weights t, ap weights u, ap size e, size_do b x, ap size bs)
+
+pub empty_lighter : (s : RStmt) (is : List Item) → s ≡ stmt.Empty → weights is < weights is + size s
+empty_lighter s is e = omega (arith, ap size e, size_empty)
+
+pub break_lighter : (s : RStmt) (is js : List Item) → s ≡ stmt.Break → weights js ≤ weights is → weights js < weights is + size s
+break_lighter s is js e h = omega (arith, ap size e, size_break)
+
+pub continue_lighter : (s : RStmt) (is js : List Item) → s ≡ stmt.Continue → weights js ≤ weights is → weights js < weights is + size s
+continue_lighter s is js e h = omega (arith, ap size e, size_continue)
+
+pub if_lighter : (s : RStmt) (arms : List RArm) (last : Option RStmt) → s ≡ stmt.If arms last → size s ≡ last_weight last + 1
+if_lighter s arms last e = ap size e ∙ size_if arms last
