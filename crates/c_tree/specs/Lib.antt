@@ -10,8 +10,14 @@ pub mod Programs
 pub mod Nodes
 -- the cells of a program
 pub mod Layout
+-- the types of a resolved tree
+pub mod Kinds
+-- the numbers of the directives
+pub mod Excludes
 -- what a checked program keeps
 pub mod Checked
+-- the names of cells
+pub mod CellNames
 -- states, values of expressions, single statements
 pub mod State
 -- what a program does

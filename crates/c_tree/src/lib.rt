@@ -7,13 +7,17 @@
 //! numbers. What a program does is `meaning` (`specs/Meaning`), said on the resolved tree.
 #![tactic(auto)]
 
+mod cell_names;
+mod cells;
 mod checked;
+mod excludes;
 mod nodes;
 mod resolved;
 mod token;
 mod tree;
 
-pub use checked::{Checked, MAIN_NODES};
+pub use checked::{Checked, MAIN_NODES, MAX_CELLS, MAX_EXCLUDES, MAX_LOCALS};
+pub use excludes::exclude_count;
 pub use nodes::node_count;
 pub use resolved::{
     Direction, Exprs, ObjectKind, RArm, RAssign, RBinary, RExpr, RFunction, RInit, RLocal, RObject,
