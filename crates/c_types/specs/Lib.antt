@@ -1,0 +1,4 @@
+-- the faults of a part of a text, in its order
+pub mod Faults
+-- what a name means inside a function
+pub mod Scope

@@ -1,0 +1,7 @@
+//! The rules that a program keeps, and its resolved tree.
+#![tactic(auto)]
+
+mod fault;
+mod scope;
+
+pub use fault::CheckFault;
