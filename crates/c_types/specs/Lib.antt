@@ -2,3 +2,5 @@
 pub mod Faults
 -- what a name means inside a function
 pub mod Scope
+-- what a name means at file scope
+pub mod File

@@ -2,6 +2,7 @@
 #![tactic(auto)]
 
 mod fault;
+mod file;
 mod scope;
 
 pub use fault::CheckFault;
