@@ -1,1 +1,3 @@
+pub mod Faulty
+pub mod Loops
 pub mod Stands

@@ -4,3 +4,5 @@ pub mod Faults
 pub mod Scope
 -- what a name means at file scope
 pub mod File
+-- the names that break a rule
+pub mod Names

@@ -3,6 +3,8 @@
 
 mod fault;
 mod file;
+mod known;
+mod names;
 mod scope;
 
 pub use fault::CheckFault;
