@@ -147,7 +147,7 @@ module _ (constants : List Constant) where
   declares n is_pointer = makes (λ s. record s { scope = declare s.scope n.text is_pointer })
 
   -- a name is unknown in its own initialiser
-  abbrev pub decl : LocalDecl → Step
+  unfoldable pub decl : LocalDecl → Step
   decl d = joined (fresh d.name) (joined (perhaps_given d.given) (declares d.name d.is_pointer))
 
   abbrev pub init_step : Init → Step
@@ -165,9 +165,9 @@ module _ (constants : List Constant) where
   answer None = nothing
   answer (Some n) = used n
 
-  -- the head of a `for`, and its body
-  abbrev pub for_parts : Option Init → Option Expr → Option Assign → Step → Step
-  for_parts i e u body = joined (perhaps_init i) (joined (perhaps_expr e) (joined (perhaps_assign u) (inside body)))
+  -- the head of a `for`
+  abbrev pub head : Option Init → Option Expr → Option Assign → Step
+  head i e u = joined (perhaps_init i) (joined (perhaps_expr e) (perhaps_assign u))
 
   abbrev pub stmt_at : Stmt-F Step Step → Step
   stmt_at (Stmt-F.Empty l) = nothing
@@ -181,7 +181,7 @@ module _ (constants : List Constant) where
   stmt_at (Stmt-F.If l arms last) = joined (all arms) (perhaps (option_map inside last))
   stmt_at (Stmt-F.While l e s) = joined (expr e) (inside s)
   stmt_at (Stmt-F.Do l s e) = joined (inside s) (expr e)
-  stmt_at (Stmt-F.For l i e u s) = inside (for_parts i e u s)
+  stmt_at (Stmt-F.For l i e u s) = inside (joined (head i e u) (inside s))
   stmt_at (Stmt-F.Block l ss) = inside (all ss)
   stmt_at (Stmt-F.Break l) = nothing
   stmt_at (Stmt-F.Continue l) = nothing

@@ -9,9 +9,8 @@ ghost use Rattle.c_types.specs.File as files;
 use crate::fault::CheckFault;
 use crate::file::Meaning;
 use crate::known::Known;
-use c_tree::{Arm, Assign, Callee, Constant, Expr, Given, Init, LocalDecl, Name, Place, Stmt};
+use c_tree::{Callee, Constant, Expr, Name};
 use ckpt_base::Text;
-use sqlite_items::Boxed;
 use std::alloc::Global;
 
 /// Whether it is an object or a constant.
@@ -77,7 +76,7 @@ pub fn so_far(
 
 /// The name of a local, an object or a constant.
 #[tactic(auto, using(crate::proofs::Faulty::front, crate::proofs::Faulty::behind), unfolding(crate::specs::Names::used))]
-fn used(
+pub fn used(
     alloc: Global,
     constants: &[Constant],
     known: &mut Known,
@@ -111,7 +110,7 @@ fn called_name(
     }
 }
 
-fn called(
+pub fn called(
     alloc: Global,
     constants: &[Constant],
     known: &mut Known,
@@ -125,7 +124,7 @@ fn called(
     }
 }
 
-fn expr(
+pub fn expr(
     alloc: Global,
     constants: &[Constant],
     known: &mut Known,
