@@ -6,3 +6,5 @@ pub mod Scope
 pub mod File
 -- the names that break a rule
 pub mod Names
+-- .. and those of a file
+pub mod FileNames

@@ -74,6 +74,10 @@ once name = says (λ s. unless (not (is_some (global s.file name))) (Twice name)
 abbrev pub constant : Constant → Step
 constant c = joined (once c.name) (makes (λ s. record s { file = with_constant s.file c.name c.number }))
 
+-- a local is known from here to the end of its block
+abbrev pub declares : Name → Bool → Step
+declares n is_pointer = makes (λ s. record s { scope = declare s.scope n.text is_pointer })
+
 module _ (constants : List Constant) where
   -- the constants that the text makes before a name of it
   unfoldable pub so_far : ℕ → Step
@@ -141,10 +145,6 @@ module _ (constants : List Constant) where
   -- a name is declared once in its block
   unfoldable pub fresh : Name → Step
   fresh n = joined (so_far n.constants) (says (λ s. unless (not (is_declared s.scope n.text)) (Twice n.text)))
-
-  -- it is known from here to the end of its block
-  abbrev pub declares : Name → Bool → Step
-  declares n is_pointer = makes (λ s. record s { scope = declare s.scope n.text is_pointer })
 
   -- a name is unknown in its own initialiser
   unfoldable pub decl : LocalDecl → Step

@@ -4,6 +4,7 @@
 mod fault;
 mod file;
 mod known;
+mod named_items;
 mod named_statements;
 mod names;
 mod scope;
