@@ -2,3 +2,5 @@ pub mod TokenKinds
 pub mod Turns
 pub mod Complete
 pub mod Sound
+pub mod Listings
+pub mod Takes

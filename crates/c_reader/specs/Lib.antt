@@ -1,4 +1,8 @@
 -- what the reader of expressions computes, on lists
 pub mod Reading
+-- what a loop over items with commas between them computes, on lists
+pub mod Listing
+-- what the reader of calls computes, on lists
+pub mod ReadingCalls
 -- what the reader of the code answers, beside the reader on lists
 pub mod Gives
