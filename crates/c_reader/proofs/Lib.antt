@@ -4,3 +4,4 @@ pub mod Complete
 pub mod Sound
 pub mod Listings
 pub mod Takes
+pub mod CallForms
