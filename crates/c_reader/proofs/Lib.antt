@@ -1,11 +1,7 @@
-pub mod Runs
-pub mod Numbers
-pub mod Scans
 pub mod TokenKinds
 pub mod Turns
 pub mod Complete
 pub mod Sound
-pub mod Statements
-pub mod Blocks
-pub mod WholeTexts
-pub mod Accepted
+pub mod Listings
+pub mod Takes
+pub mod CallForms

@@ -2,8 +2,14 @@
 pub mod Scan
 -- which tokens spell an expression
 pub mod Expressions
+-- spellings with commas between them
+pub mod Listed
+-- which tokens spell a call
+pub mod Calls
 -- which tokens spell a statement
 pub mod Statements
+-- which tokens spell what stands at file scope
+pub mod Declarations
 -- which tokens, and which texts, spell a program
 pub mod Programs
 -- how many nodes a statement has
