@@ -3,12 +3,13 @@ use Rattle.std.proofs.Common.{◌≡◌, ◌∙◌, sym, ap, subst, ⊎_elim, in
 use Rattle.ckpt_base.specs.Faults.{Rose}
 use Rattle.ckpt_base.specs.Shelf.{ShelfView, SameShelf, File, file_named}
 use Rattle.c_tree.specs.declared.resolved.Resolved.{Resolved}
+use Rattle.ckpt_program.specs.declared.outcome.Counts.{Counts}
 use Rattle.ckpt_program.specs.declared.outcome.Outcome.{Outcome}
 use Rattle.ckpt_program.specs.declared.outcome.Outcome.TheVariants as outcome
 use Rattle.ckpt_program.specs.declared.outcome.Document.TheVariants as document
-use Rattle.ckpt_program.specs.Words.{Command, Plain, command_of}
+use Rattle.ckpt_program.specs.Words.{Command, Plain, Check, command_of}
 use Rattle.ckpt_program.specs.Fetched.{Gives, Lacks, IsTooLong}
-use Rattle.ckpt_program.specs.Outcomes.{HasSource, ComesAccepted, Evaluates, Carries, Comes}
+use Rattle.ckpt_program.specs.Outcomes.{HasSource, IsCounted, Accepts, ComesAccepted, Evaluates, Carries, Comes}
 
 -- ---- a shelf with the same files gives the same
 
@@ -24,29 +25,46 @@ too_long_same a b name limit same long = λ tells.
     (found.0, ap (λ (fs : List File). file_named fs name) (sym same.files) ∙ found.1, found.2)
 
 -- what comes after the source was accepted, seen from the shelf before it was read
-pub accepted_before : (input : List ℕ) (tree : Resolved) (a b c : ShelfView) (o : Outcome) → SameShelf a b → b.faults ≡ a.faults → ComesAccepted input tree b c o → ComesAccepted input tree a c o
-accepted_before input tree a b c outcome.ShelfFault same count comes = ⊎_elim (λ rose. inl (subst (λ (n : ℕ). Rose n c.faults) count rose)) (λ lacks. inr (lacks_same a b input same lacks)) comes
-accepted_before input tree a b c (outcome.TooLarge document.Input) same count comes = (too_long_same a b input _ same comes.0, comes.1 ∙ count)
-accepted_before input tree a b c (outcome.TooLarge document.Source) same count comes = comes
-accepted_before input tree a b c outcome.NoMemory same count comes = tt
-accepted_before input tree a b c (outcome.Finished r) same count comes =
+pub accepted_before : (input : List ℕ) (until : ℕ) (tree : Resolved) (a b c : ShelfView) (o : Outcome) → SameShelf a b → b.faults ≡ a.faults → ComesAccepted input until tree b c o → ComesAccepted input until tree a c o
+accepted_before input until tree a b c outcome.ShelfFault same count comes = ⊎_elim (λ rose. inl (subst (λ (n : ℕ). Rose n c.faults) count rose)) (λ lacks. inr (lacks_same a b input same lacks)) comes
+accepted_before input until tree a b c (outcome.TooLarge document.Input) same count comes = (too_long_same a b input _ same comes.0, comes.1 ∙ count)
+accepted_before input until tree a b c (outcome.TooLarge document.Source) same count comes = comes
+accepted_before input until tree a b c outcome.NoMemory same count comes = tt
+accepted_before input until tree a b c (outcome.Finished r) same count comes =
     let whole = comes.0.1 in
     ((comes.0.0, (gives_same a b input _ same whole.0, whole.1), comes.0.2), comes.1 ∙ count)
-accepted_before input tree a b c outcome.Usage same count comes = comes
-accepted_before input tree a b c (outcome.Refused r) same count comes = comes
+accepted_before input until tree a b c (outcome.Accepted n) same count comes = comes
+accepted_before input until tree a b c outcome.Usage same count comes = comes
+accepted_before input until tree a b c (outcome.Refused r) same count comes = comes
 
-pub evaluated : (source input : List ℕ) (tree : Resolved) (a b c : ShelfView) (o : Outcome) → HasSource a source tree → SameShelf a b → b.faults ≡ a.faults → ComesAccepted input tree b c o → Evaluates source input a c o
-evaluated source input tree a b c o has same count comes = inr (tree, has, accepted_before input tree a b c o same count comes)
+pub evaluated : (source input : List ℕ) (until : ℕ) (tree : Resolved) (a b c : ShelfView) (o : Outcome) → HasSource a source tree → SameShelf a b → b.faults ≡ a.faults → ComesAccepted input until tree b c o → Evaluates source input until a c o
+evaluated source input until tree a b c o has same count comes = inr (tree, has, accepted_before input until tree a b c o same count comes)
+
+pub counted : (source : List ℕ) (tree : Resolved) (old new : ShelfView) (c : Counts) → HasSource old source tree → new.faults ≡ old.faults → IsCounted tree c → Accepts source old new (outcome.Accepted c)
+counted source tree old new c has same is = ((tree, has, is), same)
 
 -- ---- a command
 
-pub plain_comes : (words : List (List ℕ)) (source input : List ℕ) (old new : ShelfView) (o : Outcome) → Plain source input ≡ command_of words → Evaluates source input old new o → Comes words old new o
-plain_comes words source input old new o is comes = subst (λ (command : Command). Carries command old new o) is (carried source input old new o comes)
+pub plain_comes : (words : List (List ℕ)) (source input : List ℕ) (until : ℕ) (old new : ShelfView) (o : Outcome) → Plain source input until ≡ command_of words → Evaluates source input until old new o → Comes words old new o
+plain_comes words source input until old new o is comes = subst (λ (command : Command). Carries command old new o) is (carried source input until old new o comes)
   where
-    carried : (source input : List ℕ) (old new : ShelfView) (o : Outcome) → Evaluates source input old new o → Carries (Plain source input) old new o
-    carried source input old new outcome.Usage comes = ⊎_elim (λ fails. absurd fails) (λ accepted. absurd accepted.2) comes
-    carried source input old new outcome.NoMemory comes = tt
-    carried source input old new (outcome.Refused r) comes = comes
-    carried source input old new outcome.ShelfFault comes = comes
-    carried source input old new (outcome.TooLarge d) comes = comes
-    carried source input old new (outcome.Finished r) comes = comes
+    carried : (source input : List ℕ) (until : ℕ) (old new : ShelfView) (o : Outcome) → Evaluates source input until old new o → Carries (Plain source input until) old new o
+    carried source input until old new outcome.Usage comes = ⊎_elim (λ fails. absurd fails) (λ accepted. absurd accepted.2) comes
+    carried source input until old new outcome.NoMemory comes = tt
+    carried source input until old new (outcome.Refused r) comes = comes
+    carried source input until old new outcome.ShelfFault comes = comes
+    carried source input until old new (outcome.TooLarge d) comes = comes
+    carried source input until old new (outcome.Accepted n) comes = comes
+    carried source input until old new (outcome.Finished r) comes = comes
+
+pub check_comes : (words : List (List ℕ)) (source : List ℕ) (old new : ShelfView) (o : Outcome) → Check source ≡ command_of words → Accepts source old new o → Comes words old new o
+check_comes words source old new o is comes = subst (λ (command : Command). Carries command old new o) is (carried source old new o comes)
+  where
+    carried : (source : List ℕ) (old new : ShelfView) (o : Outcome) → Accepts source old new o → Carries (Check source) old new o
+    carried source old new outcome.Usage comes = absurd comes
+    carried source old new outcome.NoMemory comes = tt
+    carried source old new (outcome.Refused r) comes = comes
+    carried source old new outcome.ShelfFault comes = comes
+    carried source old new (outcome.TooLarge d) comes = comes
+    carried source old new (outcome.Accepted n) comes = comes
+    carried source old new (outcome.Finished r) comes = comes

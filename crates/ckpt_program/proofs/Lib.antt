@@ -1,5 +1,3 @@
 mod Carrying
-mod Checks
 mod Choices
-mod FewNodes
 mod Prefix

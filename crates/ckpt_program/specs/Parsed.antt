@@ -4,5 +4,6 @@ use Rattle.ckpt_program.specs.declared.words.Command.TheVariants as command
 use Rattle.ckpt_program.specs.Words as spec
 
 abbrev pub parsed : Command → spec.Command
-parsed (command.Plain s i) = spec.Plain s.now i.now
+parsed (command.Plain s i n) = spec.Plain s.now i.now n
+parsed (command.Check s) = spec.Check s.now
 parsed command.Unknown = spec.Unknown

@@ -4,10 +4,14 @@
 //! `main` gives it the files and the standard output of the host, and ends with the status that it answers.
 #![tactic(auto)]
 
-mod check;
+#[cfg(test)]
+mod check_rows;
 mod console;
 mod intake;
 mod outcome;
+#[cfg(test)]
+mod plain_rows;
+mod refusal;
 #[cfg(test)]
 mod tests;
 mod top;

@@ -1,10 +1,10 @@
-ghost use Rattle.std.specs.Prelude.{◌≡◌, ◌++◌, ◌∷◌, [], IfOk, string_bytes};
+ghost use Rattle.std.specs.Prelude.{◌≡◌, ◌++◌, ◌∷◌, [], IfOk, codes};
 ghost use Rattle.ckpt_program.specs.Texts as spec;
 
+use crate::refusal::Refusal;
 use c_meaning::PlainRun;
 use ckpt_base::Ending;
 use std::alloc::{AllocError, Global};
-use std::fmt;
 
 /// A file that a command reads.
 #[derive(Clone, Copy)]
@@ -13,15 +13,15 @@ pub enum Document {
     Input,
 }
 
-/// Why a source is refused.
+/// How much an accepted program has.
 #[derive(Clone, Copy)]
-pub enum Refusal {
-    /// It is no program; the line is that of the first token with which none goes on.
-    Syntax(u32),
-    /// It has no `main`.
-    NoMain,
-    /// `main` has so many nodes, more than 2,048.
-    TooManyNodes(u32),
+pub struct Counts {
+    /// Its cells.
+    pub cells: u32,
+    /// The nodes of `main`, the end not counted.
+    pub nodes: u32,
+    /// Its EXCLUDE_HERE.
+    pub excludes: u16,
 }
 
 /// What a command comes to.
@@ -37,11 +37,13 @@ pub enum Outcome {
     TooLarge(Document),
     /// No memory was found.
     NoMemory,
+    /// The program is accepted.
+    Accepted(Counts),
     /// The program ran.
     Finished(PlainRun),
 }
 
-/// The status where the console did not take the text of a run.
+/// The status where the console did not take the text of a run or of an accepted program.
 const CONSOLE_FAULT: u8 = 7;
 
 impl Outcome {
@@ -50,6 +52,7 @@ impl Outcome {
         ensures answer { result ≡ spec.status_of self.now }
     {
         match self {
+            Outcome::Accepted(_) => 0,
             Outcome::Finished(run) => ending_status(&run.ending),
             Outcome::Usage => 1,
             Outcome::Refused(_) => 2,
@@ -64,7 +67,7 @@ impl Outcome {
         ensures answer { result ≡ spec.broken_status self.now }
     {
         match self {
-            Outcome::Finished(_) => CONSOLE_FAULT,
+            Outcome::Accepted(_) | Outcome::Finished(_) => CONSOLE_FAULT,
             other => other.status(),
         }
     }
@@ -79,22 +82,23 @@ impl Outcome {
             text.push(b'\n')?;
         }
         let line = self.last_line(alloc)?;
-        text.extend_from_slice(line.as_bytes())?;
+        text.extend_from_slice(&line)?;
         text.push(b'\n')?;
         Ok(text)
     }
 
     // The last line of the text, without its newline.
-    fn last_line(&self, alloc: Global) -> Result<String, AllocError>
-        ensures answer { IfOk result (λ s. string_bytes s ≡ spec.last_line self.now) }
+    fn last_line(&self, alloc: Global) -> Result<Vec<u8>, AllocError>
+        ensures answer { IfOk result (λ t. t.items ≡ spec.last_line self.now) }
     {
         match self {
-            Outcome::Usage => String::from_str(alloc, USAGE),
-            Outcome::Refused(refusal) => refusal.to_string(alloc),
-            Outcome::ShelfFault => String::from_str(alloc, "shelf fault"),
-            Outcome::TooLarge(Document::Source) => String::from_str(alloc, "too large: source"),
-            Outcome::TooLarge(Document::Input) => String::from_str(alloc, "too large: input"),
-            Outcome::NoMemory => String::from_str(alloc, "no memory"),
+            Outcome::Usage => Vec::from_slice(alloc, USAGE.as_bytes()),
+            Outcome::Refused(refusal) => refused(alloc, refusal),
+            Outcome::ShelfFault => Vec::from_slice(alloc, b"shelf fault"),
+            Outcome::TooLarge(Document::Source) => Vec::from_slice(alloc, b"too large: source"),
+            Outcome::TooLarge(Document::Input) => Vec::from_slice(alloc, b"too large: input"),
+            Outcome::NoMemory => Vec::from_slice(alloc, b"no memory"),
+            Outcome::Accepted(counts) => counts_line(alloc, *counts),
             Outcome::Finished(run) => ending_line(alloc, &run.ending, run.ticks),
         }
     }
@@ -114,28 +118,37 @@ fn ending_status(ending: &Ending) -> u8
     }
 }
 
-// How a run ended and how many steps it took.
-fn ending_line(alloc: Global, ending: &Ending, ticks: u64) -> Result<String, AllocError>
-    ensures answer { IfOk result (λ s. string_bytes s ≡ spec.ending_line ending.now ticks) }
+// Why a source is refused.
+fn refused(alloc: Global, refusal: &Refusal) -> Result<Vec<u8>, AllocError>
+    ensures answer { IfOk result (λ t. t.items ≡ codes "refused: " ++ spec.refusal_text refusal.now) }
 {
-    match ending {
-        Ending::Ended(value) => format!(in alloc; "end {value} steps {ticks}"),
-        Ending::Trapped(trap) => format!(in alloc; "trap {trap} steps {ticks}"),
-        Ending::Going => format!(in alloc; "stopped steps {ticks}"),
-    }
+    let mut line = Vec::from_slice(alloc, b"refused: ")?;
+    let text = refusal.text(alloc)?;
+    line.extend_from_slice(&text)?;
+    Ok(line)
 }
 
-impl fmt::Display for Refusal {
-    ghost use Rattle.std.specs.Prelude.{Some};
-    ghost use Rattle.ckpt_program.specs.Texts as spec;
+// How much an accepted program has.
+fn counts_line(alloc: Global, counts: Counts) -> Result<Vec<u8>, AllocError>
+    ensures answer { IfOk result (λ t. t.items ≡ spec.counts_line counts) }
+{
+    let Counts {
+        cells,
+        nodes,
+        excludes,
+    } = counts;
+    let line = format!(in alloc; "accepted cells {cells} nodes {nodes} excludes {excludes}")?;
+    Vec::from_slice(alloc, line.as_bytes())
+}
 
-    ghost output = { λ r. Some (spec.refusal_line r) };
-
-    fn fmt<W: fmt::Write>(&self, f: &mut fmt::Formatter<W>) -> fmt::Result {
-        match self {
-            Refusal::Syntax(line) => write!(f, "refused: syntax in line {line}"),
-            Refusal::NoMain => write!(f, "refused: no main"),
-            Refusal::TooManyNodes(nodes) => write!(f, "refused: {nodes} nodes"),
-        }
-    }
+// How a run ended and how many steps it took.
+fn ending_line(alloc: Global, ending: &Ending, ticks: u64) -> Result<Vec<u8>, AllocError>
+    ensures answer { IfOk result (λ t. t.items ≡ spec.ending_line ending.now ticks) }
+{
+    let line = match ending {
+        Ending::Ended(value) => format!(in alloc; "end {value} steps {ticks}")?,
+        Ending::Trapped(trap) => format!(in alloc; "trap {trap} steps {ticks}")?,
+        Ending::Going => format!(in alloc; "stopped steps {ticks}")?,
+    };
+    Vec::from_slice(alloc, line.as_bytes())
 }

@@ -1,3 +1,7 @@
+use crate::check_rows::{ACCEPTED, DIRECTIVES, NAMES, SCAN, SYNTAX, TYPES};
+use crate::plain_rows::{
+    BOUNDED, BYTES, FUNCTIONS, LOOPS, NUMBERS, ORDER, READING, Row, TRAPS, WHOLE_PROGRAMS,
+};
 use crate::top::ckpt;
 use ckpt_base::{Bytes, MemShelf, MemSink, Text};
 use std::alloc::Global;
@@ -9,6 +13,7 @@ use std::test::Fail;
 struct Case<'a> {
     words: &'a [&'a str],
     source: &'a [u8],
+    input: &'a [u8],
     /// The call of the shelf that fails, or 0.
     shelf_fails: u64,
     /// The call of the console that fails, or 0.
@@ -19,12 +24,15 @@ struct Case<'a> {
 
 const PLAIN: [&str; 3] = ["plain", "source", "input"];
 
+const CHECK: [&str; 2] = ["check", "source"];
+
 const HI: &[u8] = b"int main(void){ putchar(72); putchar(105); return 0; }";
 
-fn row_of<'a>(words: &'a [&'a str], source: &'a [u8], status: u8, text: &'a [u8]) -> Case<'a> {
+fn case_of<'a>(words: &'a [&'a str], source: &'a [u8], status: u8, text: &'a [u8]) -> Case<'a> {
     Case {
         words,
         source,
+        input: b"",
         shelf_fails: 0,
         console_fails: 0,
         status,
@@ -39,14 +47,14 @@ fn file(rt: &impl Abort, alloc: Global, name: &str, content: &[u8]) -> Result<(T
     Ok((Text::of(alloc, name)?, bytes))
 }
 
-fn check(rt: &impl Abort, alloc: Global, case: &Case<'_>) -> Result<(), Fail> {
+fn holds(rt: &impl Abort, alloc: Global, case: &Case<'_>) -> Result<(), Fail> {
     let mut words = Vec::new(alloc);
     for word in case.words {
         words.push(Text::of(alloc, word)?)?;
     }
     let mut files = Vec::new(alloc);
     files.push(file(rt, alloc, "source", case.source)?)?;
-    files.push(file(rt, alloc, "input", b"")?)?;
+    files.push(file(rt, alloc, "input", case.input)?)?;
     let mut shelf = MemShelf::new(files, vec![in alloc; case.shelf_fails]?);
     let mut console = MemSink::new(alloc, 100_000, vec![in alloc; case.console_fails]?)?;
     let status = ckpt(alloc, &words, &mut shelf, &mut console);
@@ -57,76 +65,67 @@ fn check(rt: &impl Abort, alloc: Global, case: &Case<'_>) -> Result<(), Fail> {
     Ok(())
 }
 
-const NO_LINE: &[u8] = b"refused: syntax in line 1\n";
-
-#[test]
-fn plain_evaluates_what_it_reads(rt: HostRuntime) -> Result<(), Fail> {
-    let table = [
-        (HI, b"Hi\nend 0 steps 3\n".as_slice()),
-        (
-            b"int main(void){ putchar(8*9); return 2+3*4; }",
-            b"H\nend 14 steps 2\n",
-        ),
-        (b"int main(void){ }", b"\nend 0 steps 0\n"),
-        (b"int main(){ return 5; }", b"\nend 5 steps 1\n"),
-        (
-            b"int main(void){ ;;; putchar(65); ; }",
-            b"A\nend 0 steps 1\n",
-        ),
-        (
-            b"int main(void){ putchar(65); return 3; putchar(66); return 4; }",
-            b"A\nend 3 steps 2\n",
-        ),
-        (
-            b"int\tmain\r\n(\nvoid ) {\r\treturn\n7 ;\n}\n",
-            b"\nend 7 steps 1\n",
-        ),
-        (
-            b"int main(void){ return 2*3+4*5-(6-7)*8; }",
-            b"\nend 34 steps 1\n",
-        ),
-        (b"int main(void){ return 10-4-3; }", b"\nend 3 steps 1\n"),
-        (
-            b"int main(void){ return 9223372036854775807+1; }",
-            b"\nend -9223372036854775808 steps 1\n",
-        ),
-        (
-            b"int main(void){ return 4294967296*4294967296+3; }",
-            b"\nend 3 steps 1\n",
-        ),
-        (
-            b"int main(void){ putchar(256+65); putchar(0-1); putchar(0); return 0; }",
-            b"A\xff\x00\nend 0 steps 4\n",
-        ),
-    ];
-    let alloc = rt.alloc();
-    for (source, text) in table {
-        check(&rt, alloc, &row_of(&PLAIN, source, 0, text))?;
+fn all_hold<'a>(
+    rt: &impl Abort,
+    alloc: Global,
+    words: &'a [&'a str],
+    rows: &'a [Row<'a>],
+) -> Result<(), Fail> {
+    for (source, status, text) in rows {
+        holds(rt, alloc, &case_of(words, source, *status, text))?;
     }
     Ok(())
 }
 
 #[test]
-fn plain_refuses_what_it_does_not_read(rt: HostRuntime) -> Result<(), Fail> {
-    let table = [
-        (b"".as_slice(), b"refused: no main\n".as_slice()),
-        (b"int main(void){ while(1) ; }", NO_LINE),
-        (b"int main(void){ return 1;", NO_LINE),
-        (b"int main(void){ } int main(void){ }", NO_LINE),
-        (b"/* a */ int main(void){ return 0; }", NO_LINE),
-        (b"int main(void){ return 1 @ 2; }", NO_LINE),
-        (b"int main(void){ return 9223372036854775808; }", NO_LINE),
-        (b"int main(void){ return -1; }", NO_LINE),
-        (
-            b"int main(void){\nreturn 1\n}",
-            b"refused: syntax in line 3\n",
-        ),
-    ];
+fn plain_evaluates_whole_programs(rt: HostRuntime) -> Result<(), Fail> {
     let alloc = rt.alloc();
-    for (source, text) in table {
-        check(&rt, alloc, &row_of(&PLAIN, source, 2, text))?;
+    all_hold(&rt, alloc, &PLAIN, &WHOLE_PROGRAMS)?;
+    all_hold(&rt, alloc, &PLAIN, &LOOPS)?;
+    all_hold(&rt, alloc, &PLAIN, &FUNCTIONS)
+}
+
+#[test]
+fn plain_traps_and_keeps_the_order(rt: HostRuntime) -> Result<(), Fail> {
+    let alloc = rt.alloc();
+    all_hold(&rt, alloc, &PLAIN, &TRAPS)?;
+    all_hold(&rt, alloc, &PLAIN, &ORDER)
+}
+
+#[test]
+fn plain_writes_numbers_and_bytes(rt: HostRuntime) -> Result<(), Fail> {
+    let alloc = rt.alloc();
+    all_hold(&rt, alloc, &PLAIN, &NUMBERS)?;
+    all_hold(&rt, alloc, &PLAIN, &BYTES)?;
+    for (source, input, text) in READING {
+        let case = Case {
+            input,
+            ..case_of(&PLAIN, source, 0, text)
+        };
+        holds(&rt, alloc, &case)?;
     }
     Ok(())
+}
+
+#[test]
+fn a_bound_stops_before_the_next_step(rt: HostRuntime) -> Result<(), Fail> {
+    let alloc = rt.alloc();
+    for (source, until, status, text) in BOUNDED {
+        let words = ["plain", "source", "input", "--until", until];
+        holds(&rt, alloc, &case_of(&words, source, status, text))?;
+    }
+    Ok(())
+}
+
+#[test]
+fn check_accepts_and_refuses(rt: HostRuntime) -> Result<(), Fail> {
+    let alloc = rt.alloc();
+    all_hold(&rt, alloc, &CHECK, &ACCEPTED)?;
+    all_hold(&rt, alloc, &CHECK, &SCAN)?;
+    all_hold(&rt, alloc, &CHECK, &SYNTAX)?;
+    all_hold(&rt, alloc, &CHECK, &NAMES)?;
+    all_hold(&rt, alloc, &CHECK, &TYPES)?;
+    all_hold(&rt, alloc, &CHECK, &DIRECTIVES)
 }
 
 /// A text with a part of it so many times in its middle.
@@ -145,104 +144,185 @@ fn around(
     Ok(text)
 }
 
+/// A part that stands so many times in a text, at most so often and once more: both are checked.
+#[derive(Drop)]
+struct Limit<'a> {
+    before: &'a [u8],
+    part: &'a [u8],
+    most: u32,
+    after: &'a [u8],
+    accepted: &'a [u8],
+    refused: &'a [u8],
+}
+
+fn limits(rt: &impl Abort, alloc: Global, limit: &Limit<'_>) -> Result<(), Fail> {
+    let most = around(alloc, limit.before, limit.part, limit.most, limit.after)?;
+    holds(rt, alloc, &case_of(&CHECK, &most, 0, limit.accepted))?;
+    let more = around(
+        alloc,
+        limit.before,
+        limit.part,
+        limit.most.saturating_add(1),
+        limit.after,
+    )?;
+    holds(rt, alloc, &case_of(&CHECK, &more, 2, limit.refused))
+}
+
 #[test]
-fn brackets_and_nodes_have_limits(rt: HostRuntime) -> Result<(), Fail> {
+fn nodes_and_directives_have_limits(rt: HostRuntime) -> Result<(), Fail> {
     let alloc = rt.alloc();
-    let inner = around(alloc, b"int main(void){ return ", b"(", 99, b"1")?;
-    let deep = around(alloc, &inner, b")", 99, b"; }")?;
-    check(&rt, alloc, &row_of(&PLAIN, &deep, 0, b"\nend 1 steps 1\n"))?;
-    let inner = around(alloc, b"int main(void){ return ", b"(", 100, b"1")?;
-    let deeper = around(alloc, &inner, b")", 100, b"; }")?;
-    check(&rt, alloc, &row_of(&PLAIN, &deeper, 2, NO_LINE))?;
-    let most = around(alloc, b"int main(void){ ", b"putchar(65);", 2048, b" }")?;
-    let output = around(alloc, b"", b"A", 2048, b"\nend 0 steps 2048\n")?;
-    check(&rt, alloc, &row_of(&PLAIN, &most, 0, &output))?;
-    let more = around(alloc, b"int main(void){ ", b"putchar(65);", 2049, b" }")?;
-    check(
+    let nodes = Limit {
+        before: b"int main(void){ ",
+        part: b"putchar(65);",
+        most: 2048,
+        after: b" }",
+        accepted: b"accepted cells 0 nodes 2048 excludes 0\n",
+        refused: b"refused: 2049 nodes\n",
+    };
+    limits(&rt, alloc, &nodes)?;
+    let excludes = Limit {
+        before: b"int main(void){ ",
+        part: b"EXCLUDE_HERE;",
+        most: 64,
+        after: b" }",
+        accepted: b"accepted cells 0 nodes 64 excludes 64\n",
+        refused: b"refused: 65 excludes\n",
+    };
+    limits(&rt, alloc, &excludes)
+}
+
+#[test]
+fn locals_and_depth_have_limits(rt: HostRuntime) -> Result<(), Fail> {
+    let alloc = rt.alloc();
+    let locals = Limit {
+        before: b"int main(void){ return 0; } long f(long n){ long r; ",
+        part: b"{ long r; }",
+        most: 62,
+        after: b" }",
+        accepted: b"accepted cells 0 nodes 1 excludes 0\n",
+        refused: b"refused: too many locals in f\n",
+    };
+    limits(&rt, alloc, &locals)?;
+    let sums = Limit {
+        before: b"int main(void){ return 1",
+        part: b"+1",
+        most: 99,
+        after: b"; }",
+        accepted: b"accepted cells 0 nodes 1 excludes 0\n",
+        refused: b"refused: syntax in line 1\n",
+    };
+    limits(&rt, alloc, &sums)
+}
+
+const USAGE: &[u8] =
+    b"usage: ckpt plain|check|compile|report|run|restart|images|coalesce|clear|drill|generate\n";
+
+#[test]
+fn other_words_are_usage(rt: HostRuntime) -> Result<(), Fail> {
+    let alloc = rt.alloc();
+    let table: [&[&str]; 10] = [
+        &[],
+        &[""],
+        &["check"],
+        &["check", "source", "input"],
+        &["plain", "source"],
+        &["plain", "source", "input", "more"],
+        &["plain", "source", "--input"],
+        &["plain", "source", "input", "--until"],
+        &["plain", "source", "input", "--until", "01"],
+        &[
+            "plain",
+            "source",
+            "input",
+            "--until",
+            "18446744073709551616",
+        ],
+    ];
+    for words in table {
+        holds(&rt, alloc, &case_of(words, HI, 1, USAGE))?;
+    }
+    let words = [
+        "plain",
+        "source",
+        "input",
+        "--until",
+        "18446744073709551615",
+    ];
+    holds(&rt, alloc, &case_of(&words, HI, 0, b"Hi\nend 0 steps 3\n"))
+}
+
+#[test]
+fn each_call_of_the_outside_may_fail(rt: HostRuntime) -> Result<(), Fail> {
+    let alloc = rt.alloc();
+    let text = b"Hi\nend 0 steps 3\n";
+    let missing = b"shelf fault\n";
+    holds(
         &rt,
         alloc,
-        &row_of(&PLAIN, &more, 2, b"refused: 2049 nodes\n"),
-    )
-}
-
-#[test]
-fn words_files_and_the_console_are_told_apart(rt: HostRuntime) -> Result<(), Fail> {
-    let usage =
-        b"usage: ckpt plain|check|compile|report|run|restart|images|coalesce|clear|drill|generate\n".as_slice();
-    let table = [
-        row_of(&[], HI, 1, usage),
-        row_of(&[""], HI, 1, usage),
-        row_of(&["check", "source"], HI, 1, usage),
-        row_of(&["plain", "source"], HI, 1, usage),
-        row_of(&["plain", "source", "input", "more"], HI, 1, usage),
-        row_of(&["plain", "source", "--input"], HI, 1, usage),
-        row_of(&["plain", "nothing", "input"], HI, 6, b"shelf fault\n"),
-        row_of(&["plain", "source", "nothing"], HI, 6, b"shelf fault\n"),
-        row_of(
-            &["plain", "source", "nothing"],
-            b"",
-            2,
-            b"refused: no main\n",
-        ),
-        Case {
-            console_fails: 1,
-            ..row_of(&PLAIN, HI, 7, b"")
-        },
-        Case {
-            console_fails: 1,
-            ..row_of(&PLAIN, b"", 2, b"")
-        },
-    ];
-    let alloc = rt.alloc();
-    for row in table.iter() {
-        check(&rt, alloc, row)?;
-    }
-    Ok(())
-}
-
-#[test]
-fn each_call_of_the_shelf_may_fail(rt: HostRuntime) -> Result<(), Fail> {
-    let alloc = rt.alloc();
+        &case_of(&["plain", "nothing", "input"], HI, 6, missing),
+    )?;
+    holds(
+        &rt,
+        alloc,
+        &case_of(&["plain", "source", "nothing"], HI, 6, missing),
+    )?;
+    holds(&rt, alloc, &case_of(&["check", "nothing"], HI, 6, missing))?;
     // The source is opened and read twice, the second time to its end; then the input is opened and read to its end.
-    for call in 1..6 {
-        let row = Case {
+    for call in 1..7 {
+        let case = Case {
             shelf_fails: call,
-            ..row_of(&PLAIN, HI, 6, b"shelf fault\n")
+            ..case_of(&PLAIN, HI, 6, missing)
         };
-        check(&rt, alloc, &row)?;
+        if call < 6 {
+            holds(&rt, alloc, &case)?;
+        } else {
+            holds(
+                &rt,
+                alloc,
+                &Case {
+                    status: 0,
+                    text,
+                    ..case
+                },
+            )?;
+        }
     }
-    let row = Case {
-        shelf_fails: 6,
-        ..row_of(&PLAIN, HI, 0, b"Hi\nend 0 steps 3\n")
+    let unheard = Case {
+        console_fails: 1,
+        ..case_of(&PLAIN, HI, 7, b"")
     };
-    check(&rt, alloc, &row)
+    holds(&rt, alloc, &unheard)?;
+    let refused = Case {
+        source: b"",
+        status: 2,
+        ..unheard
+    };
+    holds(&rt, alloc, &refused)
 }
 
 #[test]
 fn files_past_their_limits_are_too_large(rt: HostRuntime) -> Result<(), Fail> {
     let alloc = rt.alloc();
     let long = vec![in alloc; b' '; 262_145]?;
-    check(
+    holds(
         &rt,
         alloc,
-        &row_of(&PLAIN, &long, 11, b"too large: source\n"),
+        &case_of(&PLAIN, &long, 11, b"too large: source\n"),
     )?;
-    check(
+    holds(
         &rt,
         alloc,
-        &row_of(&PLAIN, &long[1..], 2, b"refused: no main\n"),
+        &case_of(&CHECK, &long, 11, b"too large: source\n"),
+    )?;
+    holds(
+        &rt,
+        alloc,
+        &case_of(&CHECK, &long[1..], 2, b"refused: no main\n"),
     )?;
     let input = vec![in alloc; b' '; 16_777_217]?;
-    let mut files = Vec::new(alloc);
-    files.push(file(&rt, alloc, "source", HI)?)?;
-    files.push(file(&rt, alloc, "input", &input)?)?;
-    let mut words = Vec::new(alloc);
-    for word in PLAIN {
-        words.push(Text::of(alloc, word)?)?;
-    }
-    let mut shelf = MemShelf::new(files, Vec::new(alloc));
-    let mut console = MemSink::new(alloc, 100, Vec::new(alloc))?;
-    assert_eq!(rt; ckpt(alloc, &words, &mut shelf, &mut console), 11);
-    assert_eq!(rt; console.bytes(), b"too large: input\n".as_slice());
-    Ok(())
+    let case = Case {
+        input: &input,
+        ..case_of(&PLAIN, HI, 11, b"too large: input\n")
+    };
+    holds(&rt, alloc, &case)
 }

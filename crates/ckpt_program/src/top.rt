@@ -1,22 +1,23 @@
-ghost use Rattle.std.specs.Prelude.{◌≡◌, ◌≤◌, ℕ, length, IfOk, IfErr, Some};
+ghost use Rattle.std.specs.Prelude.{◌≡◌, ◌≤◌, ℕ, length, IfOk, IfErr, Ok};
 ghost use Rattle.ckpt_base.specs.Shelf.{ShelfView, SameShelf};
-ghost use Rattle.c_tree.specs.Checked.{IsChecked};
 ghost use Rattle.ckpt_program.specs.declared.outcome.Outcome.{Outcome};
 ghost use Rattle.ckpt_program.specs.declared.outcome.Outcome.TheVariants as outcome;
-ghost use Rattle.ckpt_program.specs.Check.{resolved, HasFewNodes};
-ghost use Rattle.ckpt_program.specs.Outcomes.{IsAccepted, FailsText, HasSource, FailsSource, ComesAccepted, Evaluates, Comes, FailsProgram};
+ghost use Rattle.c_types.specs.Check.{checked};
+ghost use Rattle.ckpt_program.specs.Outcomes.{IsAccepted, FailsText, HasSource, FailsSource, IsCounted, Accepts, ComesAccepted, Evaluates, Comes, FailsProgram};
 ghost use Rattle.ckpt_program.specs.Texts.{text_of};
 ghost use Rattle.ckpt_program.specs.Told.{Tells};
 
-use crate::check::{CheckFault, check};
 use crate::console::write_all;
 use crate::intake::{FetchFault, fetch};
-use crate::outcome::{Document, Outcome, Refusal};
+use crate::outcome::{Counts, Document, Outcome};
+use crate::refusal::Refusal;
 use crate::words::{Command, parse};
 use c_meaning::plain;
 use c_reader::{ReadFault, read};
 use c_tree::{Checked, Program};
+use c_types::check;
 use ckpt_base::{Failed, NoMemory, Shelf, Sink, Text};
+use sqlite_items::Boxed;
 use std::alloc::Global;
 
 /// The most bytes that a source may have.
@@ -28,8 +29,8 @@ const INPUT_BYTES: usize = 16_777_216;
 /// Does all that the program does: carries out the command that the words are, over the files of the shelf, and tells the
 /// outcome on the console, which is written once, when it is over. Answers the status with which the program ends.
 ///
-/// 0, 3 and 4 come by the ending of the run; 1 exactly where the words are no command; 2 exactly where the source is refused; 6
-/// only where the shelf failed or lacks a file; 7 only where the console failed while the text of a run was written; 11 exactly
+/// 0, 3 and 4 come by the ending of the run, and 0 for an accepted source; 1 exactly where the words are no command; 2 exactly where the source is refused; 6
+/// only where the shelf failed or lacks a file; 7 only where the console failed while the text of 0, 3 or 4 was written; 11 exactly
 /// where a file is longer than its limit; 12 where no memory is found.
 pub fn ckpt<H: Shelf, K: Sink>(
     alloc: Global,
@@ -60,24 +61,57 @@ fn come_to<H: Shelf>(alloc: Global, words: &[Text], shelf: &mut H) -> Outcome
     ensures same { SameShelf (H.view shelf.old) (H.view shelf.new) }
 {
     match parse(words) {
-        Command::Plain { source, input } => evaluate(alloc, shelf, source, input),
+        Command::Plain {
+            source,
+            input,
+            until,
+        } => evaluate(alloc, shelf, source, input, until),
+        Command::Check { source } => count(alloc, shelf, source),
         Command::Unknown => Outcome::Usage,
     }
 }
 
-// Evaluates a source on an input.
-fn evaluate<H: Shelf>(alloc: Global, shelf: &mut H, source: &Text, input: &Text) -> Outcome
-    ensures answer { Evaluates source.now input.now (H.view shelf.old) (H.view shelf.new) result }
+// Accepts or refuses a source.
+fn count<H: Shelf>(alloc: Global, shelf: &mut H, source: &Text) -> Outcome
+    ensures answer { Accepts source.now (H.view shelf.old) (H.view shelf.new) result }
     ensures same { SameShelf (H.view shelf.old) (H.view shelf.new) }
 {
     match accept(alloc, shelf, source) {
-        Ok(program) => run(alloc, shelf, &program, input),
+        Ok(program) => Outcome::Accepted(counts_of(program.get())),
+        Err(outcome) => outcome,
+    }
+}
+
+// How much a program has.
+fn counts_of(program: &Checked) -> Counts
+    ensures answer { IsCounted program.now result }
+{
+    Counts {
+        cells: program.cells(),
+        nodes: program.main_nodes(),
+        excludes: program.excludes(),
+    }
+}
+
+// Evaluates a source on an input, in at most `until` steps.
+fn evaluate<H: Shelf>(
+    alloc: Global,
+    shelf: &mut H,
+    source: &Text,
+    input: &Text,
+    until: u64,
+) -> Outcome
+    ensures answer { Evaluates source.now input.now until (H.view shelf.old) (H.view shelf.new) result }
+    ensures same { SameShelf (H.view shelf.old) (H.view shelf.new) }
+{
+    match accept(alloc, shelf, source) {
+        Ok(program) => run(alloc, shelf, program, input, until),
         Err(outcome) => outcome,
     }
 }
 
 // Reads and checks a source.
-fn accept<H: Shelf>(alloc: Global, shelf: &mut H, source: &Text) -> Result<Checked, Outcome>
+fn accept<H: Shelf>(alloc: Global, shelf: &mut H, source: &Text) -> Result<Boxed<Checked>, Outcome>
     ensures answer { IfOk result (λ tree. HasSource (H.view shelf.old) source.now tree × ((H.view shelf.new).faults ≡ (H.view shelf.old).faults)) }
     ensures err { IfErr result (λ o. FailsSource source.now (H.view shelf.old) (H.view shelf.new) o) }
     ensures same { SameShelf (H.view shelf.old) (H.view shelf.new) }
@@ -91,47 +125,64 @@ fn accept<H: Shelf>(alloc: Global, shelf: &mut H, source: &Text) -> Result<Check
 }
 
 // Reads and checks a text.
-fn accept_text(alloc: Global, text: &[u8]) -> Result<Checked, Outcome>
+fn accept_text(alloc: Global, text: &[u8]) -> Result<Boxed<Checked>, Outcome>
     requires short { length text.now ≤ 262144 }
     ensures answer { IfOk result (λ tree. IsAccepted text.now tree) }
     ensures err { IfErr result (λ o. FailsText text.now o) }
 {
     match read(alloc, text) {
         Ok(program) => accept_program(alloc, program),
-        Err(ReadFault::Syntax(line)) => Err(Outcome::Refused(Refusal::Syntax(line))),
-        Err(ReadFault::Memory) => Err(Outcome::NoMemory),
-        Err(
-            ReadFault::TooLong(_)
-            | ReadFault::BadByte(_)
-            | ReadFault::BadNumber(_)
-            | ReadFault::UnendedComment,
-        ) => unreachable!(),
+        Err(fault) => match Refusal::of_text(fault) {
+            Some(refusal) => Err(Outcome::Refused(refusal)),
+            None => Err(Outcome::NoMemory),
+        },
     }
 }
 
 // Checks a program.
-fn accept_program(alloc: Global, program: Program) -> Result<Checked, Outcome>
-    requires nodes { HasFewNodes program }
-    ensures answer { IfOk result (λ tree. (resolved program ≡ Some tree) × IsChecked tree) }
+fn accept_program(alloc: Global, program: Program) -> Result<Boxed<Checked>, Outcome>
+    ensures answer { IfOk result (λ tree. checked program ≡ Ok tree) }
     ensures err { IfErr result (λ o. FailsProgram program o) }
 {
     match check(alloc, program) {
-        Ok(checked) => Ok(checked),
-        Err(CheckFault::NoMain) => Err(Outcome::Refused(Refusal::NoMain)),
-        Err(CheckFault::TooManyNodes(nodes)) => {
-            Err(Outcome::Refused(Refusal::TooManyNodes(nodes)))
-        }
-        Err(CheckFault::Memory) => Err(Outcome::NoMemory),
+        Ok(checked) => match Boxed::new(alloc, checked) {
+            Ok(checked) => Ok(checked),
+            Err(_) => Err(Outcome::NoMemory),
+        },
+        Err(fault) => match Refusal::of_rule(fault) {
+            Some(refusal) => Err(Outcome::Refused(refusal)),
+            None => Err(Outcome::NoMemory),
+        },
     }
 }
 
-// Runs a program on an input, with no bound on its steps.
-fn run<H: Shelf>(alloc: Global, shelf: &mut H, program: &Checked, input: &Text) -> Outcome
-    ensures answer { ComesAccepted input.now program.now (H.view shelf.old) (H.view shelf.new) result }
+// Runs a program on an input, in at most `until` steps, and lets it go.
+fn run<H: Shelf>(
+    alloc: Global,
+    shelf: &mut H,
+    program: Boxed<Checked>,
+    input: &Text,
+    until: u64,
+) -> Outcome
+    ensures answer { ComesAccepted input.now until program (H.view shelf.old) (H.view shelf.new) result }
+    ensures same { SameShelf (H.view shelf.old) (H.view shelf.new) }
+{
+    run_on(alloc, shelf, program.get(), input, until)
+}
+
+// Runs a program on an input, in at most `until` steps.
+fn run_on<H: Shelf>(
+    alloc: Global,
+    shelf: &mut H,
+    program: &Checked,
+    input: &Text,
+    until: u64,
+) -> Outcome
+    ensures answer { ComesAccepted input.now until program.now (H.view shelf.old) (H.view shelf.new) result }
     ensures same { SameShelf (H.view shelf.old) (H.view shelf.new) }
 {
     match fetch(alloc, shelf, input, INPUT_BYTES) {
-        Ok(bytes) => match plain(alloc, program, bytes.as_slice(), u64::MAX) {
+        Ok(bytes) => match plain(alloc, program, bytes.as_slice(), until) {
             Ok(run) => Outcome::Finished(run),
             Err(NoMemory) => Outcome::NoMemory,
         },
