@@ -5,3 +5,4 @@ pub mod Sound
 pub mod Listings
 pub mod Takes
 pub mod CallForms
+pub mod Assigning

@@ -124,7 +124,7 @@ module _ {F A B : Type 0} (one : F → List Token → List Token) (tree : F → 
     pub read : (f : F) (ts : List Token) → Well f → Ends ts → item (one f ts) ≡ Some (got (tree f) ts)
 
   ends_comma : (c : Spot) (ts : List Token) → Ends (the c word.Comma ∷ ts)
-  ends_comma c ts = record { no_operator = refl; no_index = refl; no_call = refl }
+  ends_comma c ts = record { no_operator = refl; no_index = refl; no_call = refl; no_equals = refl; no_name = refl }
 
   last_read : (n : ℕ) (b : B) (f : F) (rest : List Token) → Reads → Well f → Ends rest → after word.Comma rest ≡ None → listed item add (suc n) b (one f rest) ≡ Some (got (add b (tree f)) rest)
   last_read n b f rest r w e c =
