@@ -6,3 +6,5 @@ pub mod Listings
 pub mod Takes
 pub mod CallForms
 pub mod Assigning
+pub mod LocalForms
+pub mod SingleForms
