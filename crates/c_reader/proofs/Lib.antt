@@ -8,3 +8,5 @@ pub mod CallForms
 pub mod Assigning
 pub mod LocalForms
 pub mod SingleForms
+pub mod StatementsGrow
+pub mod StatementReads
