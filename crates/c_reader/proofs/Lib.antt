@@ -10,3 +10,4 @@ pub mod LocalForms
 pub mod SingleForms
 pub mod StatementsGrow
 pub mod StatementReads
+pub mod StatementSound
