@@ -11,3 +11,4 @@ pub mod SingleForms
 pub mod StatementsGrow
 pub mod StatementReads
 pub mod StatementSound
+pub mod StatementTurns

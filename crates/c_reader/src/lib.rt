@@ -8,5 +8,6 @@ mod fault;
 mod locals;
 mod look;
 mod singles;
+mod statements;
 
 pub use fault::ReadFault;
