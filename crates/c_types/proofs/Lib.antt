@@ -1,3 +1,4 @@
 pub mod Faulty
 pub mod Loops
 pub mod Stands
+pub mod KindLaws

@@ -8,3 +8,7 @@ pub mod File
 pub mod Names
 -- .. and those of a file
 pub mod FileNames
+-- the types of expressions
+pub mod Types
+-- what a resolved tree names is there
+pub mod Fitting

@@ -8,5 +8,6 @@ mod named_items;
 mod named_statements;
 mod names;
 mod scope;
+mod types;
 
 pub use fault::CheckFault;
