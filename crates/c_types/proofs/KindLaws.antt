@@ -1,5 +1,5 @@
 -- The types of composed expressions.
-use Rattle.std.proofs.Common.{◌≡◌, refl, Bool, true, false, Option, Some, sym, ◌∙◌, ap}
+use Rattle.std.proofs.Common.{◌≡◌, ℕ, refl, Bool, true, false, if◌then◌else◌, Option, Some, None, sym, ◌∙◌, ap}
 use Rattle.c_tree.specs.declared.resolved.RUnary.{RUnary}
 use Rattle.c_tree.specs.declared.resolved.RBinary.{RBinary}
 use Rattle.c_tree.specs.declared.resolved.RBinary.TheVariants as binary
@@ -9,6 +9,9 @@ use Rattle.c_tree.specs.declared.resolved.RExpr.TheVariants as r
 use Rattle.c_tree.specs.declared.resolved.RExpr.TheOpen.{RExpr-F}
 use Rattle.c_tree.specs.declared.resolved.RExpr.TheFolds.{fold-roll-RExpr}
 use Rattle.c_tree.specs.Kinds.{World, kind, kind_at, of_numbers, of_binary, of_move}
+
+pub object_kind : (w : World) (o : ℕ) → w.has_address o ≡ true → kind w (r.Object o) ≡ Some true
+object_kind w o h = ap (kind w) (sym (r.rolls-Object o)) ∙ fold-roll-RExpr (Option Bool) (kind_at w) (RExpr-F.Object o) ∙ ap (λ b. if b then Some true else None) h
 
 pub unary_kind : (w : World) (x : RExpr) (op : RUnary) → kind w x ≡ Some false → kind w (r.Unary op x) ≡ Some false
 unary_kind w x op h = ap (kind w) (sym (r.rolls-Unary op x)) ∙ fold-roll-RExpr (Option Bool) (kind_at w) (RExpr-F.Unary op x) ∙ ap (λ a. of_numbers a (Some false)) h
