@@ -2,3 +2,5 @@ pub mod Faulty
 pub mod Loops
 pub mod Stands
 pub mod KindLaws
+pub mod Arguments
+pub mod Tests

@@ -39,3 +39,10 @@ IsTyped w Zero = Unit {0}
 -- the operator takes two pointers
 abbrev pub ComparesPointers : RBinary → Type 0
 ComparesPointers op = of_binary op (Some true) (Some true) ≡ Some false
+
+-- what a body names is there: objects, functions and locals; and it is a body of its function
+pub record Fits (w : World) (file : File) (frame : Frame) (locals : List RLocal) : Type 0 where
+  pub known : FitsFile w file
+  pub variables : FitsLocals w frame locals
+  pub answer : w.gives_pointer ≡ frame.gives_pointer
+  pub main : w.is_main ≡ is_some frame.first_cell

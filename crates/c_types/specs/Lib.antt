@@ -12,3 +12,5 @@ pub mod FileNames
 pub mod Types
 -- what a resolved tree names is there
 pub mod Fitting
+-- places, assignments and calls
+pub mod Places

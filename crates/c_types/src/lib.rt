@@ -8,6 +8,7 @@ mod known;
 mod named_items;
 mod named_statements;
 mod names;
+mod places;
 mod scope;
 mod types;
 
