@@ -14,3 +14,7 @@ pub mod Types
 pub mod Fitting
 -- places, assignments and calls
 pub mod Places
+-- what statements become
+pub mod Statements
+-- what the parts of a body keep
+pub mod Kept
