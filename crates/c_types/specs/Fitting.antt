@@ -3,7 +3,7 @@ use Rattle.std.specs.Prelude.{◌≡◌, ℕ, ◌+◌, Bool, true, false, List, 
 use Rattle.c_tree.specs.declared.resolved.RLocal.{RLocal}
 use Rattle.c_tree.specs.declared.resolved.RExpr.{RExpr}
 use Rattle.c_tree.specs.declared.resolved.RBinary.{RBinary}
-use Rattle.c_tree.specs.Kinds.{World, Signature, kind, of_binary}
+use Rattle.c_tree.specs.Kinds.{World, Signature, kind, of_binary, agree}
 use Rattle.c_tree.specs.Checked.{variable_kind, has_address}
 use Rattle.c_types.specs.declared.file.FileObject.{FileObject}
 use Rattle.c_types.specs.declared.file.Signature as declared
@@ -46,3 +46,8 @@ pub record Fits (w : World) (file : File) (frame : Frame) (locals : List RLocal)
   pub variables : FitsLocals w frame locals
   pub answer : w.gives_pointer ≡ frame.gives_pointer
   pub main : w.is_main ≡ is_some frame.first_cell
+
+-- the answer of a call is of the type that is wanted, where one is
+abbrev pub is_wanted : Option Bool → Option Bool → Bool
+is_wanted None answer = is_some answer
+is_wanted (Some b) answer = agree (Some b) answer

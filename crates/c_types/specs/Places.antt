@@ -96,19 +96,32 @@ accepts (Some true) gives_pointer = gives_pointer
 accepts (Some false) gives_pointer = not gives_pointer
 
 module _ (file : File) where
+  abbrev pub named_signature : Text → Option Signature
+  named_signature name = and_then (function file name) (λ f. slice_get file.signatures f)
+
   abbrev pub signature_of : Callee → Option Signature
   signature_of callee.Main = Some main_signature
-  signature_of (callee.Name n) = and_then (function file n.text) (λ f. slice_get file.signatures f)
+  signature_of (callee.Name n) = named_signature n.text
 
   -- the number of a function; `main` has none
   abbrev pub number_of : Callee → Option ℕ
   number_of callee.Main = None
   number_of (callee.Name n) = function file n.text
 
+abbrev pub count_by : ℕ → ℕ → List Expr → Result (Unit {0}) CheckFault
+count_by l parameters es = if nat_eq (length es) parameters then Ok tt else Err (WrongCount l)
+
 -- there is a value for each parameter
 abbrev pub count_of : ℕ → Option Signature → List Expr → Result (Unit {0}) CheckFault
 count_of l None es = Err (WrongType l)
-count_of l (Some f) es = if nat_eq (length es) (length f.parameters) then Ok tt else Err (WrongCount l)
+count_of l (Some f) es = count_by l (length f.parameters) es
+
+-- arguments of a call whose answer is wanted
+abbrev pub if_wanted : ℕ → Option Bool → Bool → List RExpr → Result (List RExpr) CheckFault
+if_wanted l wanted gives_pointer as' = if accepts wanted gives_pointer then Ok as' else Err (WrongType l)
+
+abbrev pub call_main : ℕ → List Expr → Option Bool → Result (List RExpr) CheckFault
+call_main l es wanted = count_by l 0 es >>= (λ u. if_wanted l wanted false [])
 
 -- ---- in a statement of a line
 
@@ -143,14 +156,15 @@ module _ (file : File) (frame : Frame) (env : Env) (l : ℕ) where
   args (p ∷ ps) [] = Ok []
   args (p ∷ ps) (e ∷ es) = fits p e >>= (λ a. args ps es >>= (λ as'. Ok (a ∷ as')))
 
-  -- the arguments of a call whose answer is wanted
-  abbrev pub values_of : Option Signature → List Expr → Option Bool → Result (List RExpr) CheckFault
-  values_of None es wanted = Err (WrongType l)
-  values_of (Some f) es wanted = args f.parameters es >>= (λ as'. if accepts wanted f.gives_pointer then Ok as' else Err (WrongType l))
-
   -- a wrong count comes before a wrong type
+  abbrev pub call_by : Option Signature → List Expr → Option Bool → Result (List RExpr) CheckFault
+  call_by None es wanted = Err (WrongType l)
+  call_by (Some f) es wanted = count_by l (length f.parameters) es >>= (λ u. args f.parameters es >>= (λ as'. if_wanted l wanted f.gives_pointer as'))
+
+  -- the arguments of a call whose answer is wanted
   abbrev pub call : Callee → List Expr → Option Bool → Result (List RExpr) CheckFault
-  call f es wanted = count_of l (signature_of file f) es >>= (λ u. values_of (signature_of file f) es wanted)
+  call callee.Main es wanted = call_main l es wanted
+  call (callee.Name n) es wanted = call_by (named_signature file n.text) es wanted
 
 -- what a call answers that makes something
 abbrev pub Gets : {A : Type 0} → Result A CheckFault → Result A CheckFault → Type 0

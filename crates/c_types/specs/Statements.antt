@@ -32,7 +32,7 @@ use Rattle.c_types.specs.Faults.{is_memory}
 use Rattle.c_types.specs.Scope.{Text, Env, enter, leave, declare, exclude}
 use Rattle.c_types.specs.File.{File, cell_number}
 use Rattle.c_types.specs.Types.{and_then, as_number, expr}
-use Rattle.c_types.specs.Places.{◌>>=◌, at, place_at, assigned, signature_of, number_of, count_of, number, fits, named, assign, values_of, call}
+use Rattle.c_types.specs.Places.{◌>>=◌, at, place_at, assigned, signature_of, number_of, count_of, number, fits, named, assign, call}
 
 -- a part of a text: what it becomes, and what is known after it
 pub record Part (A : Type 0) : Type 0 where
@@ -101,7 +101,7 @@ module _ (file : File) (frame : Frame) where
 
   abbrev pub call_stmt : ℕ → Option Name → Callee → List Expr → Env → Result RStmt CheckFault
   call_stmt l n f es env =
-      count_of l (signature_of file f) es >>= (λ u. answer l n env >>= (λ t. values_of file frame env l (signature_of file f) es (wanted_of t) >>= (λ as'. Ok (call_with (number_of file f) (λ g. s.Call (place_of t) g as')))))
+      count_of l (signature_of file f) es >>= (λ u. answer l n env >>= (λ t. call file frame env l f es (wanted_of t) >>= (λ as'. Ok (call_with (number_of file f) (λ g. s.Call (place_of t) g as')))))
 
   abbrev pub input_to : ℕ → Option Target → Result RStmt CheckFault
   input_to l None = Ok (s.Input None)
@@ -128,7 +128,7 @@ module _ (file : File) (frame : Frame) where
   starts l d None env = Ok (s.Declare (next_place env) None)
   starts l d (Some (given.Value e)) env = fits file frame env l d.is_pointer e >>= (λ x. Ok (s.Declare (next_place env) (Some x)))
   starts l d (Some (given.Call f es)) env =
-      values_of file frame env l (signature_of file f) es (Some d.is_pointer) >>= (λ as'. Ok (call_with (number_of file f) (λ g. s.Call (Some (next_place env)) g as')))
+      call file frame env l f es (Some d.is_pointer) >>= (λ as'. Ok (call_with (number_of file f) (λ g. s.Call (Some (next_place env)) g as')))
   starts l d (Some given.Input) env = stmt_if l (if d.is_pointer then false else true) (s.Input (Some (next_place env)))
 
   -- a name is unknown in its own initialiser

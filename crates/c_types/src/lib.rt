@@ -1,6 +1,7 @@
 //! The rules that a program keeps, and its resolved tree.
 #![tactic(auto)]
 
+mod calls;
 mod expressions;
 mod fault;
 mod file;
