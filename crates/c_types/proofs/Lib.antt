@@ -4,3 +4,4 @@ pub mod Stands
 pub mod KindLaws
 pub mod Arguments
 pub mod Tests
+pub mod Numbers

@@ -113,9 +113,12 @@ module _ (file : File) (frame : Frame) where
   abbrev pub print_stmt : ℕ → List PrintPiece → List Expr → Env → Result RStmt CheckFault
   print_stmt l ps es env = hole_count l ps es >>= (λ u. numbers l es env >>= (λ xs. Ok (s.Print ps xs)))
 
+  abbrev pub return_call : ℕ → Callee → List Expr → Env → Result RStmt CheckFault
+  return_call l f es env = call file frame env l f es (Some frame.gives_pointer) >>= (λ as'. Ok (call_with (number_of file f) (λ g. s.ReturnCall g as')))
+
   abbrev pub return_stmt : ℕ → Given → Env → Result RStmt CheckFault
   return_stmt l (given.Value e) env = fits file frame env l frame.gives_pointer e >>= (λ x. Ok (s.Return x))
-  return_stmt l (given.Call f es) env = call file frame env l f es (Some frame.gives_pointer) >>= (λ as'. Ok (call_with (number_of file f) (λ g. s.ReturnCall g as')))
+  return_stmt l (given.Call f es) env = return_call l f es env
   return_stmt l given.Input env = stmt_if l (if frame.gives_pointer then false else true) s.ReturnInput
 
   -- ---- declarations

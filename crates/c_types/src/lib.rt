@@ -11,6 +11,7 @@ mod named_statements;
 mod names;
 mod places;
 mod scope;
+mod single;
 mod types;
 
 pub use fault::CheckFault;
