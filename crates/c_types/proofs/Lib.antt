@@ -5,3 +5,4 @@ pub mod KindLaws
 pub mod Arguments
 pub mod Tests
 pub mod Numbers
+pub mod KeptLaws
