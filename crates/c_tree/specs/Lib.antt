@@ -16,3 +16,5 @@ pub mod Checked
 pub mod State
 -- what a program does
 pub mod Meaning
+-- which runs agree up to some ticks
+pub mod Agreement

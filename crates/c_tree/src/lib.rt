@@ -8,12 +8,14 @@
 #![tactic(auto)]
 
 mod checked;
+mod laws;
 mod nodes;
 mod resolved;
 mod token;
 mod tree;
 
 pub use checked::{Checked, MAIN_NODES};
+pub use laws::{loops_unroll, statements_are_steady};
 pub use nodes::node_count;
 pub use resolved::{
     Direction, Exprs, ObjectKind, RArm, RAssign, RBinary, RExpr, RFunction, RInit, RLocal, RObject,
