@@ -12,6 +12,7 @@ mod cell_names;
 mod cells;
 mod checked;
 mod excludes;
+mod laws;
 mod nodes;
 mod resolved;
 mod token;
@@ -19,6 +20,7 @@ mod tree;
 
 pub use checked::{Checked, MAIN_NODES, MAX_CELLS, MAX_EXCLUDES, MAX_LOCALS};
 pub use excludes::exclude_count;
+pub use laws::{loops_unroll, statements_are_steady};
 pub use nodes::node_count;
 pub use resolved::{
     Direction, Exprs, ObjectKind, RArm, RAssign, RBinary, RExpr, RFunction, RInit, RLocal, RObject,

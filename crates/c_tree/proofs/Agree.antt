@@ -15,19 +15,7 @@ use Rattle.c_tree.specs.declared.resolved.RFunction.{RFunction}
 use Rattle.c_tree.specs.Nodes.{init_count, assign_count}
 use Rattle.c_tree.specs.State.{State, Value, Action, value, values, test_value, declare, set, store, put, assign, begin, write_out, take, input, exclude, checkpoint, ticked, with_locals}
 use Rattle.c_tree.specs.Meaning.{Then, tick, given, acts, chooses, single, Ways, Calls, Piece, ArmPiece, all_of, nothing, tests, turns, loop, loop_ways, perhaps, begins, stored, handed_on, makes_call, piece_at, arm_at, piece, body_ways, called, calls_within}
-
-abbrev pub Agree : ℕ → Then → Then → Type 0
-Agree n f g = (s : State) (m : ℕ) → m ≤ n → f s m ≡ g s m
-
-pub record AgreeWays (n : ℕ) (w w' : Ways) : Type 0 where
-  pub next : Agree n w.next w'.next
-  pub out_of_loop : Agree n w.out_of_loop w'.out_of_loop
-  pub again : Agree n w.again w'.again
-  pub back : (a : ℕ) → Agree n (w.back a) (w'.back a)
-
--- ways that agree give runs that agree
-abbrev pub Steady : (Ways → Then) → Type 0
-Steady f = (n : ℕ) (w w' : Ways) → AgreeWays n w w' → Agree n (f w) (f w')
+use Rattle.c_tree.specs.Agreement.{Agree, AgreeWays, Steady}
 
 abbrev pub SteadyPiece : Piece → Type 0
 SteadyPiece p = (m : ℕ) → Steady (p.does m)
