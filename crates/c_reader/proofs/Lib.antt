@@ -12,3 +12,6 @@ pub mod StatementsGrow
 pub mod StatementReads
 pub mod StatementSound
 pub mod StatementTurns
+pub mod ObjectForms
+pub mod ItemForms
+pub mod Files

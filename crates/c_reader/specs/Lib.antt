@@ -6,5 +6,7 @@ pub mod Listing
 pub mod ReadingCalls
 -- what the reader of statements computes, on lists
 pub mod ReadingStatements
+-- what the reader of a whole text computes, on lists
+pub mod ReadingItems
 -- what the reader of the code answers, beside the reader on lists
 pub mod Gives

@@ -5,8 +5,11 @@ mod assignments;
 mod calls;
 mod expressions;
 mod fault;
+mod functions;
+mod items;
 mod locals;
 mod look;
+mod objects;
 mod singles;
 mod statements;
 
