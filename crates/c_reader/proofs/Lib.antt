@@ -15,3 +15,6 @@ pub mod StatementTurns
 pub mod ObjectForms
 pub mod ItemForms
 pub mod Files
+pub mod Runs
+pub mod Numbers
+pub mod Quotes

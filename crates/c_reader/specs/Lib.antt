@@ -1,3 +1,5 @@
+-- what the scan of the code answers, beside the scan of the definitions
+pub mod Scanning
 -- what the reader of expressions computes, on lists
 pub mod Reading
 -- what a loop over items with commas between them computes, on lists

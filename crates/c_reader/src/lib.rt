@@ -3,14 +3,19 @@
 
 mod assignments;
 mod calls;
+mod digits;
 mod expressions;
 mod fault;
 mod functions;
+mod here;
 mod items;
 mod locals;
 mod look;
 mod objects;
 mod singles;
+mod scan;
 mod statements;
+mod strings;
+mod words;
 
 pub use fault::ReadFault;
