@@ -18,3 +18,5 @@ pub mod Files
 pub mod Runs
 pub mod Numbers
 pub mod Quotes
+pub mod Marks
+pub mod Comments

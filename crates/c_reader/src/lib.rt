@@ -12,6 +12,7 @@ mod items;
 mod locals;
 mod look;
 mod objects;
+mod pieces;
 mod singles;
 mod scan;
 mod statements;

@@ -257,15 +257,21 @@ abbrev pub marked : Option Word → ℕ → Piece
 marked None b = marked_short (short_mark b)
 marked (Some w) b = piece'.Is (kind.Word w) 2
 
+-- what follows `/`: a comment, or the mark is taken
+abbrev pub slashed : List ℕ → Piece
+slashed bs =
+    if next_byte bs == 42 then commented (comment (drop 1 bs)) (drop 1 bs)
+    else (if next_byte bs == 47 then piece'.Blank (length (line_rest bs) + 1) 0
+    else marked (long_mark 47 (next_byte bs)) 47)
+
 -- a mark, a string, a character constant or a comment begins with b
 unfoldable pub mark_piece : ℕ → List ℕ → Piece
 mark_piece b bs =
     if b == 39 then character bs
     else (if b == 34 then string within.Plain [] 1 bs
     else (if b == 35 then piece'.Hash
-    else (if (b == 47) && (next_byte bs == 42) then commented (comment (drop 1 bs)) (drop 1 bs)
-    else (if (b == 47) && (next_byte bs == 47) then piece'.Blank (length (line_rest bs) + 1) 0
-    else marked (long_mark b (next_byte bs)) b))))
+    else (if b == 47 then slashed bs
+    else marked (long_mark b (next_byte bs)) b)))
 
 -- what stands at the front of a text that is not over
 unfoldable pub piece : List ℕ → Piece
