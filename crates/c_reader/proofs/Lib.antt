@@ -20,3 +20,4 @@ pub mod Numbers
 pub mod Quotes
 pub mod Marks
 pub mod Comments
+pub mod Lines

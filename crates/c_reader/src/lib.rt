@@ -4,6 +4,7 @@
 mod assignments;
 mod calls;
 mod digits;
+mod directives;
 mod expressions;
 mod fault;
 mod functions;
