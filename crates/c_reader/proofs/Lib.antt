@@ -21,3 +21,4 @@ pub mod Quotes
 pub mod Marks
 pub mod Comments
 pub mod Lines
+pub mod Scans

@@ -1,5 +1,5 @@
 -- What the scan of the code answers, beside the scan of the definitions.
-use Rattle.std.specs.Prelude.{◌≡◌, Result, Ok, Err, List, Option, Some, None, ℕ, Bool, ◌&&◌, ◌+◌, ◌*◌, ◌-◌, ◌<◌, ◌≤◌, nat_le, if◌then◌else◌}
+use Rattle.std.specs.Prelude.{◌≡◌, Result, Ok, Err, List, ◌++◌, length, Option, Some, None, ℕ, Bool, ◌&&◌, ◌+◌, ◌*◌, ◌-◌, ◌<◌, ◌≤◌, nat_le, if◌then◌else◌}
 use Rattle.c_tree.specs.declared.token.Token.{Token}
 use Rattle.c_tree.specs.declared.token.Piece.{Piece}
 use Rattle.c_tree.specs.declared.token.Piece.TheVariants as piece
@@ -30,6 +30,28 @@ GivesScan (Err e) r = FailsScan e r
 -- how far the code has taken a text apart
 abbrev pub here : Here → spec.Here
 here h = record { place = h.place; spot = record { line = h.line; constants = h.constants }; fresh = h.fresh }
+
+-- the tokens and the constants so far, and then those of the rest
+abbrev pub with_rest : Found → Scan → Scan
+with_rest s (Ok r) = Ok (record { tokens = s.tokens ++ r.tokens; constants = s.constants ++ r.constants })
+with_rest s (Err e) = Err e
+
+-- so many bytes are left of a text that is not too long, and there are no more lines and constants than bytes
+pub record IsWithin (h : Here) (left : ℕ) : Type 0 where
+  pub place : h.place + left ≤ 262144
+  pub line : h.line ≤ h.place + 1
+  pub constants : h.constants ≤ h.place
+
+-- the piece at the front was taken, and has n bytes
+pub record Moved (old new : Found) (rest : List ℕ) (n : ℕ) : Type 0 where
+  pub some : 0 < n
+  pub most : n ≤ length rest
+  pub within : IsWithin new.here (length rest - n)
+  pub same : (go : spec.Here → ℕ → Scan) → with_rest old (spec.step (spec.piece rest) (here old.here) rest go) ≡ with_rest new (go (here new.here) n)
+
+-- the piece at the front has this fault
+abbrev pub Stops : Found → List ℕ → ReadFault → Type 0
+Stops old rest e = (go : spec.Here → ℕ → Scan) → FailsScan e (with_rest old (spec.step (spec.piece rest) (here old.here) rest go))
 
 -- a number with one more digit
 abbrev pub with_digit : ℕ → ℕ → Option ℕ
