@@ -53,4 +53,3 @@ module _ (bytes : List ℕ) (n : ℕ) (c : InComment bytes n) where
         within = omega arith;
         same = c.same ∙ ap (λ x. plus n (comment x)) (two bytes n h) ∙ rw (not_both _ _ d) (ap (λ x. plus n (one_more (comment x))) (ap (λ x. get_or bytes (n + 1) 0 ∷ x) e ∙ sym a) ∙ plus-one n (comment (drop (n + 1) bytes)));
       }
-

@@ -22,3 +22,4 @@ pub mod Marks
 pub mod Comments
 pub mod Lines
 pub mod Scans
+pub mod Accepted

@@ -43,9 +43,9 @@ module _ (s : Scanned) (rest : List ℕ) (w : IsWithin s.here (length rest)) whe
         most = t.1;
         within = record { place = omega (arith, a, w.place, t.1); line = omega (arith, a, b, w.line, t.2); constants = omega (arith, a, c, w.constants) };
         same = λ go.
-        ap (λ x. with_rest s (step x (here s.here) rest go)) e
-        ∙ ap (λ g. with_rest s (go g n)) (sym q)
-        ∙ other_here s.tokens s.constants s.here h (go (here h) n);
+            ap (λ x. with_rest s (step x (here s.here) rest go)) e
+            ∙ ap (λ g. with_rest s (go g n)) (sym q)
+            ∙ other_here s.tokens s.constants s.here h (go (here h) n);
       }
 
   pub token : (x : Kind) (n : ℕ) (h : Here) → piece rest ≡ p.Is x n → (0 < n) × (n ≤ length rest) → here h ≡ spec.taken (here s.here) n
@@ -59,9 +59,9 @@ module _ (s : Scanned) (rest : List ℕ) (w : IsWithin s.here (length rest)) whe
         most = t.1;
         within = record { place = omega (arith, a, w.place, t.1); line = omega (arith, a, b, w.line); constants = omega (arith, a, c, w.constants) };
         same = λ go.
-        ap (λ x. with_rest s (step x (here s.here) rest go)) e
-        ∙ ap (λ g. with_rest s (with_token (record { kind = x; line = s.here.line; constants = s.here.constants }) (go g n))) (sym q)
-        ∙ one_token s (record { kind = x; line = s.here.line; constants = s.here.constants }) h (go (here h) n);
+            ap (λ x. with_rest s (step x (here s.here) rest go)) e
+            ∙ ap (λ g. with_rest s (with_token (record { kind = x; line = s.here.line; constants = s.here.constants }) (go g n))) (sym q)
+            ∙ one_token s (record { kind = x; line = s.here.line; constants = s.here.constants }) h (go (here h) n);
       }
 
   -- a line that begins with `#`, by what it says
@@ -83,10 +83,10 @@ module _ (s : Scanned) (rest : List ℕ) (w : IsWithin s.here (length rest)) whe
           most = l;
           within = record { place = omega (arith, a, w.place, l); line = omega (arith, a, b, w.line); constants = omega (arith, a, c, w.constants) };
           same = λ go.
-          says_is go
-          ∙ ap (λ z. with_rest s (directed z (here s.here) (length line + 1) go)) i
-          ∙ ap (λ g. with_rest s (go g (length line + 1))) (sym q)
-          ∙ other_here s.tokens s.constants s.here h (go (here h) (length line + 1));
+              says_is go
+              ∙ ap (λ z. with_rest s (directed z (here s.here) (length line + 1) go)) i
+              ∙ ap (λ g. with_rest s (go g (length line + 1))) (sym q)
+              ∙ other_here s.tokens s.constants s.here h (go (here h) (length line + 1));
         }
 
     pub define : (x : Constant) (h : Here) → says ≡ d.Define x → length line + 1 ≤ length rest → here h ≡ spec.made (here s.here) (length line + 1) → Moved s (record { tokens = s.tokens; constants = s.constants ++ x ∷ []; here = h }) rest (length line + 1)
@@ -99,10 +99,10 @@ module _ (s : Scanned) (rest : List ℕ) (w : IsWithin s.here (length rest)) whe
           most = l;
           within = record { place = omega (arith, a, w.place, l); line = omega (arith, a, b, w.line); constants = omega (arith, a, c, w.constants) };
           same = λ go.
-          says_is go
-          ∙ ap (λ z. with_rest s (directed z (here s.here) (length line + 1) go)) i
-          ∙ ap (λ g. with_rest s (with_constant x (go g (length line + 1)))) (sym q)
-          ∙ one_constant s x h (go (here h) (length line + 1));
+              says_is go
+              ∙ ap (λ z. with_rest s (directed z (here s.here) (length line + 1) go)) i
+              ∙ ap (λ g. with_rest s (with_constant x (go g (length line + 1)))) (sym q)
+              ∙ one_constant s x h (go (here h) (length line + 1));
         }
 
     pub bad_line : says ≡ d.Bad → Stops s rest (fault.BadByte s.here.place)

@@ -12,3 +12,5 @@ pub mod ReadingStatements
 pub mod ReadingItems
 -- what the reader of the code answers, beside the reader on lists
 pub mod Gives
+-- the fault of a text that spells no program
+pub mod ReadFaults

@@ -20,9 +20,7 @@ fn extent(alloc: Global, tokens: &[Token]) -> Result<(Length, &[Token]), Fault>
         None => Err(Fault::Unexpected(tokens.len())),
         Some((token, rest)) => match &token.kind {
             Kind::Num(n) => Ok((Length::Num(*n), rest)),
-            Kind::Name(text) => {
-                Ok((Length::Name(name_of(alloc, text, token.constants)?), rest))
-            }
+            Kind::Name(text) => { Ok((Length::Name(name_of(alloc, text, token.constants)?), rest)) }
             _ => Err(Fault::Unexpected(tokens.len())),
         },
     }

@@ -12,6 +12,6 @@ pub returns-in-None : goal.returns-in-None
 returns-in-None c =
     record {
       answer =
-      ends _ _ _ _ _ _ c.items.invariant parameter_takes (got c.in_ok-next.next c.in_ok-next.after.now) c.in_ok-next.ensures.answer c.in-None.ensures.answer
-      ∙ got_same _ c.in_ok-parameters.parameters c.in_ok-next.after.now c.in_ok-parameters.ensures.answer;
+          ends _ _ _ _ _ _ c.items.invariant parameter_takes (got c.in_ok-next.next c.in_ok-next.after.now) c.in_ok-next.ensures.answer c.in-None.ensures.answer
+          ∙ got_same _ c.in_ok-parameters.parameters c.in_ok-next.after.now c.in_ok-parameters.ensures.answer;
     }
