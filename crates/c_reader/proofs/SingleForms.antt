@@ -253,7 +253,7 @@ name_set_sound d b l ts us vs n x s a h =
     let t : ts ≡ a_name p.0 p.1 ∷ the r.0 word.Assign ∷ vs = s.tokens_are ∙ ap (λ f. place_tokens f us) p.2 ∙ ap (λ w. a_name p.0 p.1 ∷ w) r.1 in
     let y = named_given d b l ts vs c.0.rest p.0 p.1 r.0 v.form v.well v.within t v.tokens_are in
     let e : got (given_stmt l (name_at p.0 p.1) (spelt.given v.form)) c.0.rest ≡ x =
-        ap (λ m. got (given_stmt l m (spelt.given v.form)) c.0.rest) p.3 ∙ ap (λ g. got (given_stmt l n g) c.0.rest) v.is ∙ some_is (c.2) in
+    ap (λ m. got (given_stmt l m (spelt.given v.form)) c.0.rest) p.3 ∙ ap (λ g. got (given_stmt l n g) c.0.rest) v.is ∙ some_is (c.2) in
     subst (SpeltSingle d b l ts) e y
 
 assigned_sound : (d : ℕ) (b : Bool) (l : ℕ) (ts us vs : List Token) (p : Place) (x : Got Stmt) → SpeltPlace d ts (got p us) → after word.Assign us ≡ Some vs → assigned d l p vs ≡ Some x → SpeltSingle d b l ts x

@@ -196,11 +196,11 @@ module _ (d : ℕ) (deeper : r.Deeper) (good : GoodStmt d deeper) where
         well = (p.well, q.well);
         within = omega (arith, p.within, q.within);
         tree_is =
-        ap (λ n. stmt'.For n (init_tree p.form.init) (test_tree p.form.test) (update_tree p.form.update) (tree q.form)) gl
-        ∙ ap (λ y. stmt'.For l y (test_tree p.form.test) (update_tree p.form.update) (tree q.form)) p.init_is
-        ∙ ap (λ y. stmt'.For l k.value.init y (update_tree p.form.update) (tree q.form)) p.test_is
-        ∙ ap (λ y. stmt'.For l k.value.init k.value.test y (tree q.form)) p.update_is
-        ∙ ap (stmt'.For l k.value.init k.value.test k.value.update) q.tree_is;
+            ap (λ n. stmt'.For n (init_tree p.form.init) (test_tree p.form.test) (update_tree p.form.update) (tree q.form)) gl
+            ∙ ap (λ y. stmt'.For l y (test_tree p.form.test) (update_tree p.form.update) (tree q.form)) p.init_is
+            ∙ ap (λ y. stmt'.For l k.value.init y (update_tree p.form.update) (tree q.form)) p.test_is
+            ∙ ap (λ y. stmt'.For l k.value.init k.value.test y (tree q.form)) p.update_is
+            ∙ ap (stmt'.For l k.value.init k.value.test k.value.update) q.tree_is;
         tokens_are = t ∙ ap (λ v. the g word.For ∷ v) (p.tokens_are ∙ ap (head_tokens p.form) q.tokens_are);
         follows = q.follows;
       }

@@ -127,6 +127,15 @@ abbrev pub name : Reader Name
 name [] = None
 name (t ∷ ts) = name_of t.kind t.constants ts
 
+abbrev pub kind_names : Kind → Bool
+kind_names (kind.Name x) = true
+kind_names _ = false
+
+-- a name stands in front
+abbrev pub is_name : List Token → Bool
+is_name [] = false
+is_name (t ∷ ts) = kind_names t.kind
+
 -- ---- an expression
 
 -- an expression that was read, its depth, and the tokens after it

@@ -26,7 +26,7 @@ pub use resolved::{
     Direction, Exprs, ObjectKind, RArm, RAssign, RBinary, RExpr, RFunction, RInit, RLocal, RObject,
     RPlace, RStmt, RUnary, Resolved,
 };
-pub use token::{Directive, Kind, Piece, Token, Word};
+pub use token::{Directive, Kind, Piece, Token, Turn, Within, Word};
 pub use tree::{
     Arm, Assign, Binary, Callee, Constant, Expr, Function, Given, Init, Item, Length, LocalDecl,
     Name, ObjectDecl, ObjectForm, Parameter, Pieces, Place, PrintPiece, Program, Stmt, Unary,
