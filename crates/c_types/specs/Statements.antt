@@ -90,6 +90,21 @@ hole_count l ps es = if nat_eq (length es) (count_by is_hole ps) then Ok tt else
 abbrev pub exclude_number : Env → ℕ
 exclude_number env = min (env.excludes + 1) 65535
 
+-- the place of the name that is declared next
+abbrev pub next_place : Frame → Env → RPlace
+next_place frame env = place_at frame.first_cell (length env.locals)
+
+-- there is a value for each parameter of the calls of a declaration
+abbrev pub given_count : File → ℕ → Option Given → Result (Unit {0}) CheckFault
+given_count file l None = Ok tt
+given_count file l (Some (given.Value e)) = Ok tt
+given_count file l (Some (given.Call f es)) = count_of l (signature_of file f) es
+given_count file l (Some given.Input) = Ok tt
+
+abbrev pub counts : File → ℕ → List LocalDecl → Result (Unit {0}) CheckFault
+counts file l [] = Ok tt
+counts file l (d ∷ ds) = given_count file l d.given >>= (λ u. counts file l ds)
+
 module _ (file : File) (frame : Frame) where
   abbrev pub numbers : ℕ → List Expr → Env → Result (List RExpr) CheckFault
   numbers l [] env = Ok []
@@ -123,33 +138,23 @@ module _ (file : File) (frame : Frame) where
 
   -- ---- declarations
 
-  -- the place of the name that is declared next
-  abbrev pub next_place : Env → RPlace
-  next_place env = place_at frame.first_cell (length env.locals)
+  abbrev pub starts_with_call : ℕ → Bool → Callee → List Expr → Env → Result RStmt CheckFault
+  starts_with_call l is_pointer f es env = call file frame env l f es (Some is_pointer) >>= (λ as'. Ok (call_with (number_of file f) (λ g. s.Call (Some (next_place frame env)) g as')))
 
-  abbrev pub starts : ℕ → LocalDecl → Option Given → Env → Result RStmt CheckFault
-  starts l d None env = Ok (s.Declare (next_place env) None)
-  starts l d (Some (given.Value e)) env = fits file frame env l d.is_pointer e >>= (λ x. Ok (s.Declare (next_place env) (Some x)))
-  starts l d (Some (given.Call f es)) env =
-      call file frame env l f es (Some d.is_pointer) >>= (λ as'. Ok (call_with (number_of file f) (λ g. s.Call (Some (next_place env)) g as')))
-  starts l d (Some given.Input) env = stmt_if l (if d.is_pointer then false else true) (s.Input (Some (next_place env)))
+  abbrev pub starts : ℕ → Bool → Option Given → Env → Result RStmt CheckFault
+  starts l is_pointer None env = Ok (s.Declare (next_place frame env) None)
+  starts l is_pointer (Some (given.Value e)) env = fits file frame env l is_pointer e >>= (λ x. Ok (s.Declare (next_place frame env) (Some x)))
+  starts l is_pointer (Some (given.Call f es)) env = starts_with_call l is_pointer f es env
+  starts l is_pointer (Some given.Input) env = stmt_if l (if is_pointer then false else true) (s.Input (Some (next_place frame env)))
 
   -- a name is unknown in its own initialiser
   abbrev pub decl : ℕ → LocalDecl → Part RStmt
-  decl l d = record { does = starts l d d.given; after = λ env. declare env d.name.text d.is_pointer }
-
-  abbrev pub given_count : ℕ → Option Given → Result (Unit {0}) CheckFault
-  given_count l (Some (given.Call f es)) = count_of l (signature_of file f) es
-  given_count l g = Ok tt
-
-  abbrev pub counts : ℕ → List LocalDecl → Result (Unit {0}) CheckFault
-  counts l [] = Ok tt
-  counts l (d ∷ ds) = given_count l d.given >>= (λ u. counts l ds)
+  decl l d = record { does = starts l d.is_pointer d.given; after = λ env. declare env d.name.text d.is_pointer }
 
   -- the counts of all its calls come before the types
   abbrev pub declared : ℕ → List LocalDecl → Part RStmt
   declared l ds = record {
-    does = λ env. counts l ds >>= (λ u. (all (map (decl l) ds)).does env >>= (λ rs. Ok (s.Block rs)));
+    does = λ env. counts file l ds >>= (λ u. (all (map (decl l) ds)).does env >>= (λ rs. Ok (s.Block rs)));
     after = (all (map (decl l) ds)).after;
   }
 
@@ -158,7 +163,7 @@ module _ (file : File) (frame : Frame) where
   abbrev pub init_part : ℕ → Init → Part RInit
   init_part l (init.Assign a) = says (λ env. assign file frame env l a >>= (λ r. Ok (rinit.Set r)))
   init_part l (init.Declare n e) = record {
-    does = λ env. fits file frame env l false e >>= (λ x. Ok (rinit.Declare (assigned (next_place env) x)));
+    does = λ env. fits file frame env l false e >>= (λ x. Ok (rinit.Declare (assigned (next_place frame env) x)));
     after = λ env. declare env n.text false;
   }
 
