@@ -160,12 +160,18 @@ module _ (file : File) (frame : Frame) where
 
   -- ---- `for`
 
-  abbrev pub init_part : ℕ → Init → Part RInit
-  init_part l (init.Assign a) = says (λ env. assign file frame env l a >>= (λ r. Ok (rinit.Set r)))
-  init_part l (init.Declare n e) = record {
-    does = λ env. fits file frame env l false e >>= (λ x. Ok (rinit.Declare (assigned (next_place frame env) x)));
+  abbrev pub init_value : ℕ → Expr → Env → Result RAssign CheckFault
+  init_value l e env = fits file frame env l false e >>= (λ x. Ok (assigned (next_place frame env) x))
+
+  abbrev pub init_declare : ℕ → Name → Expr → Part RInit
+  init_declare l n e = record {
+    does = λ env. init_value l e env >>= (λ a. Ok (rinit.Declare a));
     after = λ env. declare env n.text false;
   }
+
+  abbrev pub init_part : ℕ → Init → Part RInit
+  init_part l (init.Assign a) = says (λ env. assign file frame env l a >>= (λ r. Ok (rinit.Set r)))
+  init_part l (init.Declare n e) = init_declare l n e
 
   abbrev pub perhaps_init : ℕ → Option Init → Part (Option RInit)
   perhaps_init l None = says (λ env. Ok None)

@@ -3,7 +3,7 @@
 
 ghost use Rattle.std.specs.Prelude.{◌≡◌, [], ℕ, Bool, Some, true, false, Ok, IfOk, map, length};
 ghost use Rattle.std.specs.List.{list_all, concat};
-ghost use Rattle.c_tree.specs.Kinds.{World, kind, keeps_rules, place_kind, begins, is_test, updates};
+ghost use Rattle.c_tree.specs.Kinds.{World, keeps_rules, place_kind};
 ghost use Rattle.c_tree.specs.Excludes.{excludes};
 ghost use Rattle.c_types.specs.Places.{Gets};
 ghost use Rattle.c_types.specs.Statements as spec;
@@ -14,18 +14,16 @@ ghost use Rattle.c_types.specs.Kept.{Kept, marks};
 use crate::calls::{call, count_of, number_of};
 use crate::fault::CheckFault;
 use crate::file::FileNames;
-use crate::places::{assign, fits, number, place_at};
+use crate::places::{fits, place_at};
 use crate::scope::Scope;
 use crate::single::call_with;
 use crate::types::Frame;
-use c_tree::{
-    Assign, Callee, Expr, Given, Init, LocalDecl, RAssign, RExpr, RInit, RPlace, RStmt,
-};
+use c_tree::{Callee, Expr, Given, LocalDecl, RPlace, RStmt};
 use sqlite_items::Items;
 use std::alloc::Global;
 
 /// The place of the name that is declared next.
-fn next_place(frame: Frame, scope: &Scope) -> Result<RPlace, CheckFault>
+pub fn next_place(frame: Frame, scope: &Scope) -> Result<RPlace, CheckFault>
     ensures gets { Gets (Ok (spec.next_place frame scope.now)) result }
     ensures kept { (w : World) → IfOk result (λ p. place_kind w p ≡ local_kind w frame.first_cell (length scope.now.locals)) }
 {

@@ -6,6 +6,7 @@ mod declarations;
 mod expressions;
 mod fault;
 mod file;
+mod heads;
 mod known;
 mod named_items;
 mod named_statements;
