@@ -8,3 +8,4 @@ pub mod Numbers
 pub mod KeptLaws
 pub mod Making
 pub mod RuleLaws
+pub mod Composed

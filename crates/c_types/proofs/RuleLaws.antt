@@ -8,8 +8,9 @@ use Rattle.c_tree.specs.declared.resolved.RArm.{RArm}
 use Rattle.c_tree.specs.declared.resolved.RStmt.{RStmt}
 use Rattle.c_tree.specs.declared.resolved.RStmt.TheVariants as s
 use Rattle.c_tree.specs.declared.resolved.RStmt.TheOpen.{RStmt-F, RArm-F}
-use Rattle.c_tree.specs.declared.resolved.RStmt.TheFolds.{fold-roll-RStmt, fold-RArm, fold-RStmt}
+use Rattle.c_tree.specs.declared.resolved.RStmt.TheFolds.{fold-roll-RStmt, fold-roll-RArm, fold-RArm}
 use Rattle.c_tree.specs.Kinds.{World, keeps_rules, keeps_rules_at, arm_keeps_rules_at, is_number, is_test, begins, updates}
+use Rattle.c_types.specs.Statements.{arm_of}
 use Rattle.c_tree.specs.Excludes.{excludes, excludes_at, arm_excludes_at, arm_excludes}
 
 -- whether an arm keeps the rules
@@ -19,6 +20,11 @@ arm_keeps w = fold-RArm (Bool → Bool) (Bool → Bool) (keeps_rules_at w) (arm_
 pub all_map : {X : Type 0} (f : X → Bool → Bool) (b : Bool) (xs : List X) → list_all (λ g. g b) (map f xs) ≡ list_all (λ x. f x b) xs
 all_map f b [] = refl
 all_map f b (x ∷ xs) = ap (λ c. f x b && c) (all_map f b xs)
+
+-- the last statement of an `if`
+abbrev pub last_keeps : World → Bool → Option RStmt → Bool
+last_keeps w in_loop None = true
+last_keeps w in_loop (Some r) = keeps_rules w r in_loop
 
 module _ (w : World) (in_loop : Bool) where
   pub block_rules : (rs : List RStmt) → keeps_rules w (s.Block rs) in_loop ≡ list_all (λ r. keeps_rules w r in_loop) rs
@@ -33,16 +39,17 @@ module _ (w : World) (in_loop : Bool) where
   pub for_rules : (i : Option RInit) (x : Option RExpr) (u : Option RAssign) (r : RStmt) → keeps_rules w (s.For i x u r) in_loop ≡ (begins w i && is_test w x && updates w u && keeps_rules w r true)
   for_rules i x u r = ap (λ (f : Bool → Bool). f in_loop) (ap (keeps_rules w) (sym (s.rolls-For i x u r)) ∙ fold-roll-RStmt (Bool → Bool) (Bool → Bool) (keeps_rules_at w) (arm_keeps_rules_at w) (RStmt-F.For i x u r))
 
-  -- the last statement of an `if`
-  abbrev pub last_keeps : Option RStmt → Bool
-  last_keeps None = true
-  last_keeps (Some r) = keeps_rules w r in_loop
+  pub arm_rules : (x : RExpr) (r : RStmt) → arm_keeps w (arm_of x r) in_loop ≡ (is_number w x && keeps_rules w r in_loop)
+  arm_rules x r = ap (λ (f : Bool → Bool). f in_loop) (fold-roll-RArm (Bool → Bool) (Bool → Bool) (keeps_rules_at w) (arm_keeps_rules_at w) (record { test = x; body = r }))
 
-  pub if_rules : (as' : List RArm) (last : Option RStmt) → keeps_rules w (s.If as' last) in_loop ≡ (list_all (λ a. arm_keeps w a in_loop) as' && last_keeps last)
+  pub if_rules : (as' : List RArm) (last : Option RStmt) → keeps_rules w (s.If as' last) in_loop ≡ (list_all (λ a. arm_keeps w a in_loop) as' && last_keeps w in_loop last)
   if_rules as' None = ap (λ (f : Bool → Bool). f in_loop) (ap (keeps_rules w) (sym (s.rolls-If as' None)) ∙ fold-roll-RStmt (Bool → Bool) (Bool → Bool) (keeps_rules_at w) (arm_keeps_rules_at w) (RStmt-F.If as' None)) ∙ ap (λ b. b && true) (all_map (arm_keeps w) in_loop as')
   if_rules as' (Some r) = ap (λ (f : Bool → Bool). f in_loop) (ap (keeps_rules w) (sym (s.rolls-If as' (Some r))) ∙ fold-roll-RStmt (Bool → Bool) (Bool → Bool) (keeps_rules_at w) (arm_keeps_rules_at w) (RStmt-F.If as' (Some r))) ∙ ap (λ b. b && keeps_rules w r in_loop) (all_map (arm_keeps w) in_loop as')
 
 -- ---- directives
+
+pub arm_excludes_of : (x : RExpr) (r : RStmt) → arm_excludes (arm_of x r) ≡ excludes r
+arm_excludes_of x r = fold-roll-RArm (List ℕ) (List ℕ) excludes_at arm_excludes_at (record { test = x; body = r })
 
 pub block_excludes : (rs : List RStmt) → excludes (s.Block rs) ≡ concat (map excludes rs)
 block_excludes rs = ap excludes (sym (s.rolls-Block rs)) ∙ fold-roll-RStmt (List ℕ) (List ℕ) excludes_at arm_excludes_at (RStmt-F.Block rs)

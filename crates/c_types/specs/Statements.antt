@@ -105,6 +105,24 @@ abbrev pub counts : File → ℕ → List LocalDecl → Result (Unit {0}) CheckF
 counts file l [] = Ok tt
 counts file l (d ∷ ds) = given_count file l d.given >>= (λ u. counts file l ds)
 
+-- the head of a `for`
+abbrev pub Head : Type 0
+Head = Option RInit × Option RExpr × Option RAssign
+
+abbrev pub heads : Option RInit → Option RExpr → Option RAssign → Head
+heads i x u = (i, x, u)
+
+-- a body, in a loop or not
+abbrev pub Body : Type 0
+Body = Bool → Part RStmt
+
+abbrev pub arm_of : RExpr → RStmt → RArm
+arm_of x r = roll-RArm (record { test = x; body = r })
+
+-- an arm: its test, and its body
+abbrev pub ArmParts : Type 0
+ArmParts = Expr × Body
+
 module _ (file : File) (frame : Frame) where
   abbrev pub numbers : ℕ → List Expr → Env → Result (List RExpr) CheckFault
   numbers l [] env = Ok []
@@ -185,13 +203,6 @@ module _ (file : File) (frame : Frame) where
   perhaps_assign l None env = Ok None
   perhaps_assign l (Some a) env = assign file frame env l a >>= (λ r. Ok (Some r))
 
-  -- the head of a `for`
-  abbrev pub Head : Type 0
-  Head = Option RInit × Option RExpr × Option RAssign
-
-  abbrev pub heads : Option RInit → Option RExpr → Option RAssign → Head
-  heads i x u = (i, x, u)
-
   abbrev pub head : ℕ → Option Init → Option Expr → Option Assign → Part Head
   head l i e u = record {
     does = λ env. (perhaps_init l i).does env >>= (λ a. perhaps_number l e ((perhaps_init l i).after env) >>= (λ b. perhaps_assign l u ((perhaps_init l i).after env) >>= (λ c. Ok (heads a b c))));
@@ -202,17 +213,6 @@ module _ (file : File) (frame : Frame) where
   for_parts l i e u body = joined (head l i e u) (inside body) (λ h r. s.For h.0 h.1 h.2 r)
 
   -- ---- statements with parts
-
-  -- a body, in a loop or not
-  abbrev pub Body : Type 0
-  Body = Bool → Part RStmt
-
-  abbrev pub arm_of : RExpr → RStmt → RArm
-  arm_of x r = roll-RArm (record { test = x; body = r })
-
-  -- an arm: its test, and its body
-  abbrev pub ArmParts : Type 0
-  ArmParts = Expr × Body
 
   abbrev pub arm_part : ℕ → Bool → ArmParts → Part RArm
   arm_part l in_loop a = joined (says (λ env. number file frame env l a.0)) (inside (a.1 in_loop)) arm_of
