@@ -86,9 +86,25 @@ stmt_if l b r = if b then Ok r else Err (WrongType l)
 abbrev pub hole_count : ℕ → List PrintPiece → List Expr → Result (Unit {0}) CheckFault
 hole_count l ps es = if nat_eq (length es) (count_by is_hole ps) then Ok tt else Err (WrongCount l)
 
+-- CHECKPOINT_HERE in `main`; elsewhere it becomes nothing, and is refused by the next pass
+abbrev pub checkpoint_in : Option ℕ → RStmt
+checkpoint_in None = s.Empty
+checkpoint_in (Some c) = s.Checkpoint
+
+abbrev pub checkpoint_stmt : Frame → RStmt
+checkpoint_stmt frame = checkpoint_in frame.first_cell
+
 -- directives are numbered from 1. The numbers end at 65,535: a program with so many has too many
 abbrev pub exclude_number : Env → ℕ
 exclude_number env = min (env.excludes + 1) 65535
+
+abbrev pub exclude_in : Option ℕ → Part RStmt
+exclude_in None = says (λ env. Ok s.Empty)
+exclude_in (Some c) = record { does = λ env. Ok (s.Exclude (exclude_number env)); after = exclude }
+
+-- EXCLUDE_HERE, likewise
+abbrev pub exclude_part : Frame → Part RStmt
+exclude_part frame = exclude_in frame.first_cell
 
 -- the place of the name that is declared next
 abbrev pub next_place : Frame → Env → RPlace
@@ -131,6 +147,12 @@ module _ (file : File) (frame : Frame) where
   abbrev pub answer : ℕ → Option Name → Env → Result (Option Target) CheckFault
   answer l None env = Ok None
   answer l (Some n) env = named file frame env l n.text >>= (λ t. Ok (Some t))
+
+  abbrev pub set_stmt : ℕ → Assign → Env → Result RStmt CheckFault
+  set_stmt l a env = assign file frame env l a >>= (λ r. Ok (s.Set r.place r.value))
+
+  abbrev pub put_stmt : ℕ → Expr → Env → Result RStmt CheckFault
+  put_stmt l e env = number file frame env l e >>= (λ x. Ok (s.Put x))
 
   abbrev pub call_stmt : ℕ → Option Name → Callee → List Expr → Env → Result RStmt CheckFault
   call_stmt l n f es env =
@@ -228,13 +250,6 @@ module _ (file : File) (frame : Frame) where
     after = (joined arms last (λ as' r. s.If as' r)).after;
   }
 
-  -- a directive of `main`; elsewhere it becomes nothing, and is refused by the next pass
-  abbrev pub directive : (Env → RStmt) → (Env → Env) → Part RStmt
-  directive r after = record {
-    does = λ env. Ok (if is_some frame.first_cell then r env else s.Empty);
-    after = λ env. if is_some frame.first_cell then after env else env;
-  }
-
   abbrev pub last_part : Bool → Option Body → Part (Option RStmt)
   last_part in_loop None = says (λ env. Ok None)
   last_part in_loop (Some p) = becomes (inside (p in_loop)) Some
@@ -242,10 +257,10 @@ module _ (file : File) (frame : Frame) where
   abbrev pub stmt_at : Stmt-F Body ArmParts → Body
   stmt_at (Stmt-F.Empty l) in_loop = says (λ env. Ok s.Empty)
   stmt_at (Stmt-F.Declare l ds) in_loop = declared l ds
-  stmt_at (Stmt-F.Set l a) in_loop = says (λ env. assign file frame env l a >>= (λ r. Ok (s.Set r.place r.value)))
+  stmt_at (Stmt-F.Set l a) in_loop = says (set_stmt l a)
   stmt_at (Stmt-F.Call l n f es) in_loop = says (call_stmt l n f es)
   stmt_at (Stmt-F.Input l n) in_loop = says (input_stmt l n)
-  stmt_at (Stmt-F.Put l e) in_loop = says (λ env. number file frame env l e >>= (λ x. Ok (s.Put x)))
+  stmt_at (Stmt-F.Put l e) in_loop = says (put_stmt l e)
   stmt_at (Stmt-F.Print l ps es) in_loop = says (print_stmt l ps es)
   stmt_at (Stmt-F.Return l g) in_loop = says (return_stmt l g)
   stmt_at (Stmt-F.If l arms last) in_loop = if_parts l (map (λ a. a.0) arms) (all (map (arm_part l in_loop) arms)) (last_part in_loop last)
@@ -255,8 +270,8 @@ module _ (file : File) (frame : Frame) where
   stmt_at (Stmt-F.Block l ps) in_loop = inside (becomes (all (map (λ p. p in_loop) ps)) s.Block)
   stmt_at (Stmt-F.Break l) in_loop = says (λ env. stmt_if l in_loop s.Break)
   stmt_at (Stmt-F.Continue l) in_loop = says (λ env. stmt_if l in_loop s.Continue)
-  stmt_at (Stmt-F.Checkpoint l) in_loop = directive (λ env. s.Checkpoint) (λ env. env)
-  stmt_at (Stmt-F.Exclude l) in_loop = directive (λ env. s.Exclude (exclude_number env)) exclude
+  stmt_at (Stmt-F.Checkpoint l) in_loop = says (λ env. Ok (checkpoint_stmt frame))
+  stmt_at (Stmt-F.Exclude l) in_loop = exclude_part frame
 
   abbrev pub arm_at : Arm-F Body ArmParts → ArmParts
   arm_at a = (a.test, a.body)
