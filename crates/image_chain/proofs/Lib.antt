@@ -10,3 +10,5 @@ pub mod StartLaws
 pub mod KeptLaws
 -- looking at the files of a store
 pub mod LookLaws
+-- the records of a file, one after another
+pub mod WalkLaws

@@ -5,12 +5,15 @@ use Rattle.disk_model.specs.declared.disk_file.DiskFile.{DiskFile}
 use Rattle.disk_model.specs.Store.{Store}
 use Rattle.image_format.specs.declared.fields.Fields.{Fields}
 use Rattle.image_format.specs.declared.header.Header.{Header}
-use Rattle.image_format.specs.Image.{Image, IsImage}
-use Rattle.image_format.specs.Spelling.{is_open}
+use Rattle.image_format.specs.Image.{Image, IsImage, word_in_runs}
+use Rattle.image_format.specs.Spelling.{is_open, image_length}
 use Rattle.image_format.specs.Reading.{◌>>=◌}
 use Rattle.image_chain.specs.declared.chain.Chain.{Chain}
 use Rattle.image_chain.specs.declared.chain.Current.{Current}
-use Rattle.image_chain.specs.Records.{Damage, Found, records_at, newest_of, chain_in}
+use Rattle.image_chain.specs.Records.{Damage, Found, records_at, newest_of, broken_field, chain_in}
+use Rattle.std.specs.Option.{option_or}
+use Rattle.image_chain.specs.declared.fault.ChainFault.{ChainFault}
+use Rattle.image_chain.specs.declared.fault.ChainFault.TheVariants.{Failed, Damaged}
 use Rattle.image_chain.specs.Memory.{Joined, memory, kept_word}
 use Rattle.image_chain.specs.Append.{header_of, front, chained_length, AreInOrder}
 use Rattle.image_chain.specs.Lists.{found_of}
@@ -36,3 +39,22 @@ pub record Walked (current : Current) (kept : Joined) (rs : List Image) (file : 
 abbrev pub opened_as : Option Chain → List Image → Option Found
 opened_as None rs = None
 opened_as (Some chain) rs = found_of chain.current.file (header_of chain.current) rs
+
+-- What is kept of a record that follows those before it.
+pub record Accepted (old new : Current) (kept now : Joined) (image : Image) : Type 0 where
+  pub room : old.count < old.max
+  pub order : broken_field old.newest image.fields ≡ None
+  pub file : new.file ≡ old.file
+  pub header : header_of new ≡ header_of old
+  pub count : new.count ≡ old.count + 1
+  pub newest : new.newest ≡ Some image.fields
+  pub newest_at : new.newest_at ≡ old.gate + 1
+  pub gate : new.gate ≡ old.gate + image_length image
+  pub words : (c : ℕ) → kept_word now c ≡ option_or (word_in_runs image.runs c) (kept_word kept c)
+
+-- The damage of a record that does not: it is one too many, or a field breaks the order.
+abbrev pub IsRefused : ChainFault → Current → Image → Type 0
+IsRefused Failed old image = ⊥
+IsRefused (Damaged file place) old image =
+    (file ≡ old.file) × (((old.count ≡ old.max) × (place ≡ old.gate))
+    ⊎ ((old.count < old.max) × ((field : ℕ) × (broken_field old.newest image.fields ≡ Some field) × (place ≡ old.gate + 1 + field))))

@@ -62,6 +62,7 @@ pub(crate) fn fetch<D: Disk>(
 ) -> Result<usize, Failed>
     ensures bound { IfOk result (λ n. n ≤ 3145837) }
     ensures answer { IfOk result (λ n. IsTrue (D.view disk.old).tells → image_at (take n room.new) ≡ image_at (take 3145837 (drop at (file_of file (D.view disk.old).seen)))) }
+    ensures bytes { IfOk result (λ n. IsTrue (D.view disk.old).tells → take n room.new ≡ take n (drop at (file_of file (D.view disk.old).seen))) }
     ensures looked { OnlyLooked (D.view disk.old) (D.view disk.new) }
     ensures failed { OnErr result (Rose (D.view disk.old).faults (D.view disk.new).faults) }
 {

@@ -56,6 +56,7 @@ impl ChainRoom {
         requires len { len ≤ 3145837 }
         ensures bound { IfOk result (λ n. n ≤ len) }
         ensures answer { IfOk result (λ n. IsTrue (D.view disk.old).tells → take n self.new ≡ take len (drop at (file_of file (D.view disk.old).seen))) }
+        ensures bytes { IfOk result (λ n. IsTrue (D.view disk.old).tells → take n self.new ≡ take n (drop at (file_of file (D.view disk.old).seen))) }
         ensures looked { OnlyLooked (D.view disk.old) (D.view disk.new) }
         ensures failed { OnErr result (Rose (D.view disk.old).faults (D.view disk.new).faults) }
     {
@@ -75,6 +76,7 @@ fn fill_front<D: Disk>(
     requires len { len ≤ length bytes.old }
     ensures bound { IfOk result (λ n. n ≤ len) }
     ensures answer { IfOk result (λ n. IsTrue (D.view disk.old).tells → take n bytes.new ≡ take len (drop at (file_of file (D.view disk.old).seen))) }
+    ensures bytes { IfOk result (λ n. IsTrue (D.view disk.old).tells → take n bytes.new ≡ take n (drop at (file_of file (D.view disk.old).seen))) }
     ensures looked { OnlyLooked (D.view disk.old) (D.view disk.new) }
     ensures failed { OnErr result (Rose (D.view disk.old).faults (D.view disk.new).faults) }
 {
