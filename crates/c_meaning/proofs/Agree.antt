@@ -1,18 +1,20 @@
 -- What a statement does with some ticks depends on what follows only at as many or fewer, so that a loop is its own turns.
 use Rattle.std.proofs.Common.{◌≡◌, ℕ, zero, suc, ◌+◌, ◌<◌, ◌≤◌, List, [], ◌∷◌, Option, Some, None, Ok, Err, true, false, Bool, cond, Result, map, refl, sym, subst, arith}
-use Rattle.std.specs.Prelude.{slice_get, if◌then◌else◌}
+use Rattle.std.specs.Prelude.{slice_get}
 use Rattle.ckpt_base.specs.declared.trap.Trap.{Trap}
 use Rattle.ckpt_base.specs.Word.{word_holds}
 use Rattle.ckpt_base.specs.Run.{Run}
+use Rattle.c_tree.specs.declared.resolved.RExpr.{RExpr}
 use Rattle.c_tree.specs.declared.resolved.RAssign.{RAssign}
+use Rattle.c_tree.specs.declared.resolved.RInit.{RInit}
 use Rattle.c_tree.specs.declared.resolved.RArm.{RArm}
 use Rattle.c_tree.specs.declared.resolved.RStmt.{RStmt}
 use Rattle.c_tree.specs.declared.resolved.RStmt.TheOpen.{RStmt-F, RArm-F}
 use Rattle.c_tree.specs.declared.resolved.RStmt.TheFolds.{fold-RArm, map-RStmt, fold-roll-RStmt, fold-roll-RArm, ind-RStmt}
 use Rattle.c_tree.specs.declared.resolved.RFunction.{RFunction}
-use Rattle.c_tree.specs.Nodes.{assign_count}
-use Rattle.c_tree.specs.State.{State, Value, Action, value, test_value, declare, set, put, assign, ticked, with_locals}
-use Rattle.c_tree.specs.Meaning.{Then, tick, given, acts, chooses, single, Ways, Calls, Piece, ArmPiece, all_of, last_of, nothing, tests, turns, loop, loop_ways, perhaps, piece_at, arm_at, piece, body_ways, called, calls_within}
+use Rattle.c_tree.specs.Nodes.{init_count, assign_count}
+use Rattle.c_tree.specs.State.{State, Value, Action, value, values, test_value, declare, set, store, put, assign, begin, write_out, take, input, exclude, checkpoint, ticked, with_locals}
+use Rattle.c_tree.specs.Meaning.{Then, tick, given, acts, chooses, single, Ways, Calls, Piece, ArmPiece, all_of, nothing, tests, turns, loop, loop_ways, perhaps, begins, stored, handed_on, makes_call, piece_at, arm_at, piece, body_ways, called, calls_within}
 
 abbrev pub Agree : ℕ → Then → Then → Type 0
 Agree n f g = (s : State) (m : ℕ) → m ≤ n → f s m ≡ g s m
@@ -64,6 +66,10 @@ perhaps_agrees : (u : Option RAssign) (n : ℕ) (k k' : Then) → Agree n k k' �
 perhaps_agrees None n k k' h = h
 perhaps_agrees (Some x) n k k' h = single_agrees n (assign x) k k' h
 
+begins_agrees : (i : Option RInit) (n : ℕ) (k k' : Then) → Agree n k k' → Agree n (begins i k) (begins i k')
+begins_agrees None n k k' h = h
+begins_agrees (Some x) n k k' h = single_agrees n (begin x) k k' h
+
 turns_steady : (b : ℕ) (e : Value) (body : Ways → Then) (u : Option RAssign) → Steady body → Steady (turns b e body (perhaps u))
 turns_steady zero e body u h n w w' a = λ s m le. refl
 turns_steady (suc b) e body u h n w w' a =
@@ -72,7 +78,7 @@ turns_steady (suc b) e body u h n w w' a =
     let x = loop_ways (perhaps u (k w)) w in
     let x' = loop_ways (perhaps u (k w')) w' in
     tick_agrees n (chooses e (body x) w.next) (chooses e (body x') w'.next)
-        (chooses_agrees n e (body x) (body x') w.next w'.next (h n x x' (record { next = l; out_of_loop = a.next; again = l; back = a.back })) a.next)
+    (chooses_agrees n e (body x) (body x') w.next w'.next (h n x x' (record { next = l; out_of_loop = a.next; again = l; back = a.back })) a.next)
 
 loop_steady : (e : Value) (body : Ways → Then) (u : Option RAssign) → Steady body → Steady (loop e body (perhaps u))
 loop_steady e body u h n w w' a = λ s m le. turns_steady (suc m) e body u h n w w' a s m le
@@ -88,7 +94,11 @@ module _ (calls : Calls) (sc : SteadyCalls calls) (X X' Y Y' : Type 0) (p : X �
       let y = g (q x) in
       let rest = tests (map g (map q xs)) last (m + 1 + y.body.size) in
       tick_agrees n (chooses y.test (y.body.does (m + 1) w) (rest w)) (chooses y.test (y.body.does (m + 1) w') (rest w'))
-          (chooses_agrees n y.test (y.body.does (m + 1) w) (y.body.does (m + 1) w') (rest w) (rest w') (hg x (m + 1) n w w' a) (test_parts xs last l (m + 1 + y.body.size) n w w' a))
+      (chooses_agrees n y.test (y.body.does (m + 1) w) (y.body.does (m + 1) w') (rest w) (rest w') (hg x (m + 1) n w w' a) (test_parts xs last l (m + 1 + y.body.size) n w w' a))
+
+  call_agrees : (n f : ℕ) (es : List RExpr) (on on' : List ℕ → ℕ → Then) → ((ls : List ℕ) (b : ℕ) → Agree n (on ls b) (on' ls b)) → Agree n (tick (makes_call calls f es on)) (tick (makes_call calls f es on'))
+  call_agrees n f es on on' h = tick_agrees n (makes_call calls f es on) (makes_call calls f es on')
+      (λ s m le. given_agrees (values es s.variables) s _ _ (λ as'. sc f as' n (on s.variables.locals) (on' s.variables.locals) (h s.variables.locals) s m le))
 
   layer : (y : RStmt-F X X') → SteadyPiece (piece_at calls (map-RStmt Y Y' Piece ArmPiece f g (map-RStmt X X' Y Y' p q y)))
   layer RStmt-F.Empty m n w w' a = a.next
@@ -96,6 +106,13 @@ module _ (calls : Calls) (sc : SteadyCalls calls) (X X' Y Y' : Type 0) (p : X �
   layer RStmt-F.Continue m n w w' a = a.again
   layer (RStmt-F.Declare d e) m n w w' a = single_agrees n (declare d e) w.next w'.next a.next
   layer (RStmt-F.Set d e) m n w w' a = single_agrees n (set d e) w.next w'.next a.next
+  layer (RStmt-F.Call p k es) m n w w' a = call_agrees n k es (stored (store p) w.next) (stored (store p) w'.next) (λ ls b s m le. acts_agrees n (store p b) w.next w'.next a.next (with_locals ls s) m le)
+  layer (RStmt-F.Input p) m n w w' a = single_agrees n (input p) w.next w'.next a.next
+  layer (RStmt-F.ReturnCall k es) m n w w' a = call_agrees n k es (handed_on w.back) (handed_on w'.back) (λ ls b s m le. a.back b (with_locals ls s) m le)
+  layer RStmt-F.ReturnInput m n w w' a = tick_agrees n _ _ (λ s m le. a.back (take s).0 (take s).1 m le)
+  layer (RStmt-F.Print ps es) m n w w' a = single_agrees n (write_out ps es) w.next w'.next a.next
+  layer RStmt-F.Checkpoint m n w w' a = single_agrees n (checkpoint m) w.next w'.next a.next
+  layer (RStmt-F.Exclude k) m n w w' a = single_agrees n (exclude k) w.next w'.next a.next
   layer (RStmt-F.Put e) m n w w' a = single_agrees n (put e) w.next w'.next a.next
   layer (RStmt-F.Return e) m n w w' a = tick_agrees n _ _ (λ t j lt. given_agrees (value e t.variables) t _ _ (λ b. a.back b t j lt))
   layer (RStmt-F.Block ss) m n w w' a = all_parts ss m n w w' a
@@ -106,8 +123,9 @@ module _ (calls : Calls) (sc : SteadyCalls calls) (X X' Y Y' : Type 0) (p : X �
       let l = loop_steady (test_value (Some e)) ((f (p x)).does m) None (hf x m) n w w' a in
       hf x m n _ _ (record { next = l; out_of_loop = a.next; again = l; back = a.back })
   layer (RStmt-F.For init e u x) m n w w' a =
-      let body = (f (p x)).does (m + assign_count init + 1 + assign_count u) in
-      perhaps_agrees init n (loop (test_value e) body (perhaps u) w) (loop (test_value e) body (perhaps u) w') (loop_steady (test_value e) body u (hf x (m + assign_count init + 1 + assign_count u)) n w w' a)
+      let k = m + init_count init + 1 + assign_count u in
+      let body = (f (p x)).does k in
+      begins_agrees init n (loop (test_value e) body (perhaps u) w) (loop (test_value e) body (perhaps u) w') (loop_steady (test_value e) body u (hf x k) n w w' a)
 
 module _ (calls : Calls) (sc : SteadyCalls calls) where
   abbrev arm_piece : RArm → ArmPiece

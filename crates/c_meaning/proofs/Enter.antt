@@ -1,9 +1,11 @@
 -- Statements that are begun.
-use Rattle.std.proofs.Common.{◌≡◌, ℕ, ◌+◌, ◌<◌, ◌≤◌, List, [], ◌∷◌, map, Option, Some, None, refl, sym, ap, ◌∙◌, arith}
+use Rattle.std.proofs.Common.{◌≡◌, ℕ, ◌+◌, ◌<◌, ◌≤◌, List, [], ◌∷◌, map, Option, Some, None, refl, sym, ap, subst, ◌∙◌, arith}
 use Rattle.std.specs.Prelude.{MatchOption}
 use Rattle.std.specs.Borrow.{Bor}
 use Rattle.ckpt_base.specs.Run.{Run}
+use Rattle.c_tree.specs.declared.tree.PrintPiece.{PrintPiece}
 use Rattle.c_tree.specs.declared.resolved.RAssign.{RAssign}
+use Rattle.c_tree.specs.declared.resolved.RInit.{RInit}
 use Rattle.c_tree.specs.declared.resolved.RExpr.{RExpr}
 use Rattle.c_tree.specs.declared.resolved.RPlace.{RPlace}
 use Rattle.c_tree.specs.declared.resolved.RArm.{RArm}
@@ -11,16 +13,20 @@ use Rattle.c_tree.specs.declared.resolved.RStmt.{RStmt}
 use Rattle.c_tree.specs.declared.resolved.RStmt.TheOpen.{RStmt-F}
 use Rattle.c_tree.specs.declared.resolved.RStmt.TheFolds.{fold-roll-RStmt}
 use Rattle.c_tree.specs.declared.resolved.RStmt.TheVariants as stmt
-use Rattle.c_tree.specs.Nodes.{assign_count}
-use Rattle.c_tree.specs.State.{State, Action, Value, value, test_value, declare, set, put, assign}
-use Rattle.c_tree.specs.Meaning.{Then, Ways, Calls, Piece, ArmPiece, tick, given, acts, chooses, single, all_of, last_of, tests, loop, loop_ways, perhaps, piece_at, arm_at, piece, calls_within}
+use Rattle.c_tree.specs.Nodes.{init_count, assign_count}
+use Rattle.c_tree.specs.State.{State, Action, Value, value, test_value, declare, set, store, put, begin, write_out, take, input, exclude, checkpoint}
+use Rattle.c_tree.specs.Meaning.{Then, Ways, Calls, Piece, ArmPiece, tick, given, acts, chooses, single, tests, loop, loop_ways, perhaps, begins, stored, handed_on, makes_call, piece_at, arm_at, piece}
 use Rattle.c_meaning.specs.declared.progress.Progress.{Progress}
 use Rattle.c_meaning.specs.declared.evaluator.Evaluator.{Evaluator}
 use Rattle.c_meaning.specs.declared.work.Loop.{Loop}
+use Rattle.c_meaning.specs.declared.work.Frame.{Frame}
+use Rattle.c_meaning.specs.declared.work.End.{End}
+use Rattle.c_meaning.specs.declared.work.End.TheVariants as end'
+use Rattle.c_meaning.specs.declared.work.Single.{Single}
 use Rattle.c_meaning.specs.declared.work.Item.{Item}
 use Rattle.c_meaning.specs.declared.work.Item.TheVariants as item
 use Rattle.c_meaning.specs.Memory.{test_of}
-use Rattle.c_meaning.specs.Working.{todo, calls, before, first, others, ways, ways_on, update_of, looping, turn_ways, arm_piece, last_piece, From, Stands, Skipped, size, size_at, total, last_size, last_weight, weight, weights}
+use Rattle.c_meaning.specs.Working.{todo, calls, before, ways, ways_on, behind, action, end_item, update_of, looping, turn_ways, arm_piece, last_piece, From, Stands, Skipped, size, size_at, total, last_weight, weights}
 use Rattle.c_meaning.proofs.Agree.{piece_steady, calls_steady, unrolls}
 use Rattle.c_meaning.proofs.Going.{moved, added}
 
@@ -36,7 +42,7 @@ module _ (c : Calls) where
   piece_do : (b : RStmt) (x : RExpr) → piece c (stmt.Do b x) ≡ piece_at c (RStmt-F.Do (piece c b) x)
   piece_do b x = ap (piece c) (sym (stmt.rolls-Do b x)) ∙ fold-roll-RStmt Piece ArmPiece (piece_at c) (arm_at c) (RStmt-F.Do b x)
 
-  piece_for : (i : Option RAssign) (x : Option RExpr) (u : Option RAssign) (b : RStmt) → piece c (stmt.For i x u b) ≡ piece_at c (RStmt-F.For i x u (piece c b))
+  piece_for : (i : Option RInit) (x : Option RExpr) (u : Option RAssign) (b : RStmt) → piece c (stmt.For i x u b) ≡ piece_at c (RStmt-F.For i x u (piece c b))
   piece_for i x u b = ap (piece c) (sym (stmt.rolls-For i x u b)) ∙ fold-roll-RStmt Piece ArmPiece (piece_at c) (arm_at c) (RStmt-F.For i x u b)
 
   piece_if : (arms : List RArm) (last : Option RStmt) → (m : ℕ) (w : Ways) → (piece c (stmt.If arms last)).does m w ≡ tests (map (arm_piece c) arms) (last_piece c last) m w
@@ -61,6 +67,27 @@ module _ (c : Calls) where
   piece_put : (x : RExpr) → piece c (stmt.Put x) ≡ piece_at c (RStmt-F.Put x)
   piece_put x = ap (piece c) (sym (stmt.rolls-Put x)) ∙ fold-roll-RStmt Piece ArmPiece (piece_at c) (arm_at c) (RStmt-F.Put x)
 
+  piece_call : (p : Option RPlace) (f : ℕ) (xs : List RExpr) → piece c (stmt.Call p f xs) ≡ piece_at c (RStmt-F.Call p f xs)
+  piece_call p f xs = ap (piece c) (sym (stmt.rolls-Call p f xs)) ∙ fold-roll-RStmt Piece ArmPiece (piece_at c) (arm_at c) (RStmt-F.Call p f xs)
+
+  piece_return_call : (f : ℕ) (xs : List RExpr) → piece c (stmt.ReturnCall f xs) ≡ piece_at c (RStmt-F.ReturnCall f xs)
+  piece_return_call f xs = ap (piece c) (sym (stmt.rolls-ReturnCall f xs)) ∙ fold-roll-RStmt Piece ArmPiece (piece_at c) (arm_at c) (RStmt-F.ReturnCall f xs)
+
+  piece_return_input : piece c stmt.ReturnInput ≡ piece_at c RStmt-F.ReturnInput
+  piece_return_input = ap (piece c) (sym stmt.rolls-ReturnInput) ∙ fold-roll-RStmt Piece ArmPiece (piece_at c) (arm_at c) RStmt-F.ReturnInput
+
+  piece_input : (p : Option RPlace) → piece c (stmt.Input p) ≡ piece_at c (RStmt-F.Input p)
+  piece_input p = ap (piece c) (sym (stmt.rolls-Input p)) ∙ fold-roll-RStmt Piece ArmPiece (piece_at c) (arm_at c) (RStmt-F.Input p)
+
+  piece_print : (ps : List PrintPiece) (xs : List RExpr) → piece c (stmt.Print ps xs) ≡ piece_at c (RStmt-F.Print ps xs)
+  piece_print ps xs = ap (piece c) (sym (stmt.rolls-Print ps xs)) ∙ fold-roll-RStmt Piece ArmPiece (piece_at c) (arm_at c) (RStmt-F.Print ps xs)
+
+  piece_checkpoint : piece c stmt.Checkpoint ≡ piece_at c RStmt-F.Checkpoint
+  piece_checkpoint = ap (piece c) (sym stmt.rolls-Checkpoint) ∙ fold-roll-RStmt Piece ArmPiece (piece_at c) (arm_at c) RStmt-F.Checkpoint
+
+  piece_exclude : (k : ℕ) → piece c (stmt.Exclude k) ≡ piece_at c (RStmt-F.Exclude k)
+  piece_exclude k = ap (piece c) (sym (stmt.rolls-Exclude k)) ∙ fold-roll-RStmt Piece ArmPiece (piece_at c) (arm_at c) (RStmt-F.Exclude k)
+
   piece_return : (x : RExpr) → piece c (stmt.Return x) ≡ piece_at c (RStmt-F.Return x)
   piece_return x = ap (piece c) (sym (stmt.rolls-Return x)) ∙ fold-roll-RStmt Piece ArmPiece (piece_at c) (arm_at c) (RStmt-F.Return x)
 
@@ -73,18 +100,46 @@ Ticks go e n r = (k : ℕ) × From (λ w. tick (go k w)) e n r
 ticks : (e : Evaluator) (go : Ways → Then) (to : ℕ → Ways → Then) (k n : ℕ) (r : Run) → ((w : Ways) → go w ≡ tick (to k w)) → From go e n r → Ticks to e n r
 ticks e go to k n r h x = (k, moved e e go (λ w. tick (to k w)) (λ ms. ms) n r refl (λ ms s n. ap (λ (f : Then). f s n) (h (ways_on e ms))) x)
 
+-- a statement that is one node
+one_ticks : (e : Evaluator) (s : RStmt) (to : ℕ → Ways → Then) (p : Piece) → piece (calls e) s ≡ p → ((m : ℕ) (w : Ways) → p.does m w ≡ tick (to m w)) → (m n : ℕ) (r : Run) → From ((piece (calls e) s).does m) e n r → Ticks to e n r
+one_ticks e s to p is h m n r = ticks e _ to m n r (λ w. ap (λ (q : Piece). q.does m w) is ∙ h m w)
+
 module _ (e : Evaluator) (s : RStmt) where
-  pub declare_ticks : (p : RPlace) (x : Option RExpr) → s ≡ stmt.Declare p x → (m n : ℕ) (r : Run) → From ((piece (calls e) s).does m) e n r → Ticks (λ k w. acts (declare p x) w.next) e n r
-  declare_ticks p x is m n r = ticks e _ (λ k w. acts (declare p x) w.next) m n r (λ w. ap (λ (q : Piece). q.does m w) (ap (piece (calls e)) is ∙ piece_declare (calls e) p x))
+  abbrev Begins : (ℕ → Ways → Then) → Type 0
+  Begins to = (m n : ℕ) (r : Run) → From ((piece (calls e) s).does m) e n r → Ticks to e n r
 
-  pub set_ticks : (p : RPlace) (x : RExpr) → s ≡ stmt.Set p x → (m n : ℕ) (r : Run) → From ((piece (calls e) s).does m) e n r → Ticks (λ k w. acts (set p x) w.next) e n r
-  set_ticks p x is m n r = ticks e _ (λ k w. acts (set p x) w.next) m n r (λ w. ap (λ (q : Piece). q.does m w) (ap (piece (calls e)) is ∙ piece_set (calls e) p x))
+  pub declare_ticks : (p : RPlace) (x : Option RExpr) → s ≡ stmt.Declare p x → Begins (λ k w. acts (declare p x) w.next)
+  declare_ticks p x is = one_ticks e s (λ k w. acts (declare p x) w.next) _ (ap (piece (calls e)) is ∙ piece_declare (calls e) p x) (λ m w. refl)
 
-  pub put_ticks : (x : RExpr) → s ≡ stmt.Put x → (m n : ℕ) (r : Run) → From ((piece (calls e) s).does m) e n r → Ticks (λ k w. acts (put x) w.next) e n r
-  put_ticks x is m n r = ticks e _ (λ k w. acts (put x) w.next) m n r (λ w. ap (λ (q : Piece). q.does m w) (ap (piece (calls e)) is ∙ piece_put (calls e) x))
+  pub set_ticks : (p : RPlace) (x : RExpr) → s ≡ stmt.Set p x → Begins (λ k w. acts (set p x) w.next)
+  set_ticks p x is = one_ticks e s (λ k w. acts (set p x) w.next) _ (ap (piece (calls e)) is ∙ piece_set (calls e) p x) (λ m w. refl)
 
-  pub return_ticks : (x : RExpr) → s ≡ stmt.Return x → (m n : ℕ) (r : Run) → From ((piece (calls e) s).does m) e n r → Ticks (λ k w s n. given (value x s.variables) s (λ a. w.back a s n)) e n r
-  return_ticks x is m n r = ticks e _ (λ k w s n. given (value x s.variables) s (λ a. w.back a s n)) m n r (λ w. ap (λ (q : Piece). q.does m w) (ap (piece (calls e)) is ∙ piece_return (calls e) x))
+  pub put_ticks : (x : RExpr) → s ≡ stmt.Put x → Begins (λ k w. acts (put x) w.next)
+  put_ticks x is = one_ticks e s (λ k w. acts (put x) w.next) _ (ap (piece (calls e)) is ∙ piece_put (calls e) x) (λ m w. refl)
+
+  pub print_ticks : (ps : List PrintPiece) (xs : List RExpr) → s ≡ stmt.Print ps xs → Begins (λ k w. acts (write_out ps xs) w.next)
+  print_ticks ps xs is = one_ticks e s (λ k w. acts (write_out ps xs) w.next) _ (ap (piece (calls e)) is ∙ piece_print (calls e) ps xs) (λ m w. refl)
+
+  pub input_ticks : (p : Option RPlace) → s ≡ stmt.Input p → Begins (λ k w. acts (input p) w.next)
+  input_ticks p is = one_ticks e s (λ k w. acts (input p) w.next) _ (ap (piece (calls e)) is ∙ piece_input (calls e) p) (λ m w. refl)
+
+  pub checkpoint_ticks : s ≡ stmt.Checkpoint → Begins (λ k w. acts (checkpoint k) w.next)
+  checkpoint_ticks is = one_ticks e s (λ k w. acts (checkpoint k) w.next) _ (ap (piece (calls e)) is ∙ piece_checkpoint (calls e)) (λ m w. refl)
+
+  pub exclude_ticks : (k : ℕ) → s ≡ stmt.Exclude k → Begins (λ m w. acts (exclude k) w.next)
+  exclude_ticks k is = one_ticks e s (λ m w. acts (exclude k) w.next) _ (ap (piece (calls e)) is ∙ piece_exclude (calls e) k) (λ m w. refl)
+
+  pub return_ticks : (x : RExpr) → s ≡ stmt.Return x → Begins (λ k w s n. given (value x s.variables) s (λ a. w.back a s n))
+  return_ticks x is = one_ticks e s (λ k w s n. given (value x s.variables) s (λ a. w.back a s n)) _ (ap (piece (calls e)) is ∙ piece_return (calls e) x) (λ m w. refl)
+
+  pub return_input_ticks : s ≡ stmt.ReturnInput → Begins (λ k w s. w.back (take s).0 (take s).1)
+  return_input_ticks is = one_ticks e s (λ k w s. w.back (take s).0 (take s).1) _ (ap (piece (calls e)) is ∙ piece_return_input (calls e)) (λ m w. refl)
+
+  pub call_ticks : (p : Option RPlace) (f : ℕ) (xs : List RExpr) → s ≡ stmt.Call p f xs → Begins (λ k w. makes_call (calls e) f xs (stored (store p) w.next))
+  call_ticks p f xs is = one_ticks e s (λ k w. makes_call (calls e) f xs (stored (store p) w.next)) _ (ap (piece (calls e)) is ∙ piece_call (calls e) p f xs) (λ m w. refl)
+
+  pub return_call_ticks : (f : ℕ) (xs : List RExpr) → s ≡ stmt.ReturnCall f xs → Begins (λ k w. makes_call (calls e) f xs (handed_on w.back))
+  return_call_ticks f xs is = one_ticks e s (λ k w. makes_call (calls e) f xs (handed_on w.back)) _ (ap (piece (calls e)) is ∙ piece_return_call (calls e) f xs) (λ m w. refl)
 
 -- ---- loops
 
@@ -93,8 +148,8 @@ abbrev pub turning : Calls → Option (Bor RExpr) → Option (Bor RAssign) → R
 turning c x u b k w = chooses (test_of x) ((piece c b).does k (loop_ways (update_of u (loop (test_of x) ((piece c b).does k) (update_of u) w)) w)) w.next
 
 turns_are : (e : Evaluator) (x : Option (Bor RExpr)) (u : Option (Bor RAssign)) (b : RStmt) (k : ℕ) (w : Ways) (s : State) (n : ℕ) → loop (test_of x) ((piece (calls e) b).does k) (update_of u) w s n ≡ tick (turning (calls e) x u b k w) s n
-turns_are e x None b k w s n = unrolls (test_of x) ((piece (calls e) b).does k) None (piece_steady (calls e) (calls_steady e.progress.functions.now 1000) b k) w s n
-turns_are e x (Some a) b k w s n = unrolls (test_of x) ((piece (calls e) b).does k) (Some a.now) (piece_steady (calls e) (calls_steady e.progress.functions.now 1000) b k) w s n
+turns_are e x None b k w s n = unrolls (test_of x) ((piece (calls e) b).does k) None (piece_steady (calls e) (calls_steady e.progress.functions.now e.progress.allowed) b k) w s n
+turns_are e x (Some a) b k w s n = unrolls (test_of x) ((piece (calls e) b).does k) (Some a.now) (piece_steady (calls e) (calls_steady e.progress.functions.now e.progress.allowed) b k) w s n
 
 -- a loop comes to its test
 pub loop_ticks : (e : Evaluator) (x : Option (Bor RExpr)) (u : Option (Bor RAssign)) (b : RStmt) (go : Ways → Then) (k n : ℕ) (r : Run) → ((w : Ways) → go w ≡ loop (test_of x) ((piece (calls e) b).does k) (update_of u) w)
@@ -114,33 +169,38 @@ module _ (e : Evaluator) (s : RStmt) where
       → Ticks (λ k w. chooses (test_value (Some x)) ((piece (calls e) b).does k (loop_ways (perhaps None (loop (test_value (Some x)) ((piece (calls e) b).does k) (perhaps None) w)) w)) w.next) e n r
   while_ticks x b b' bs is m n r y =
       let k = m + 1 in
-      let to = λ (w : Ways). chooses (test_value (Some x)) ((piece (calls e) b).does k (loop_ways (perhaps None (loop (test_value (Some x)) ((piece (calls e) b).does k) (perhaps None) w)) w)) w.next in
-      (k, moved e e _ (λ w. tick (to w)) (λ ms. ms) n r refl (λ ms s' n.
-      ap (λ (q : Piece). q.does m (ways_on e ms) s' n) (ap (piece (calls e)) (is ∙ ap (stmt.While x) (sym bs)) ∙ piece_while (calls e) x b)
-      ∙ unrolls (test_value (Some x)) ((piece (calls e) b).does k) None (piece_steady (calls e) (calls_steady e.progress.functions.now 1000) b k) (ways_on e ms) s' n) y)
+      let to = λ (w : Ways). chooses (test_value (Some x)) ((piece (calls e) b).does k (loop_ways (perhaps None (loop (test_value (Some x)) ((piece (calls e) b).does k) (perhaps None) w)) w)) w.next in (
+        k,
+        moved e e _ (λ w. tick (to w)) (λ ms. ms) n r refl (λ ms s' n.
+            ap (λ (q : Piece). q.does m (ways_on e ms) s' n) (ap (piece (calls e)) (is ∙ ap (stmt.While x) (sym bs)) ∙ piece_while (calls e) x b)
+            ∙ unrolls (test_value (Some x)) ((piece (calls e) b).does k) None (piece_steady (calls e) (calls_steady e.progress.functions.now e.progress.allowed) b k) (ways_on e ms) s' n) y,
+      )
 
   module _ (o : Option (Bor RExpr)) (ou : Option (Bor RAssign)) (x : Option RExpr) (u : Option RAssign) (b b' : RStmt) (hx : MatchOption o (x ≡ None) (λ y. x ≡ Some y.now)) (hu : MatchOption ou (u ≡ None) (λ y. u ≡ Some y.now)) (bs : b ≡ b') where
-    for_is : (i : Option RAssign) (m : ℕ) (w : Ways) → s ≡ stmt.For i x u b'
-        → (piece (calls e) s).does m w ≡ perhaps i (loop (test_of o) ((piece (calls e) b).does (m + assign_count i + 1 + assign_count u)) (update_of ou) w)
+    for_is : (i : Option RInit) (m : ℕ) (w : Ways) → s ≡ stmt.For i x u b'
+        → (piece (calls e) s).does m w ≡ begins i (loop (test_of o) ((piece (calls e) b).does (m + init_count i + 1 + assign_count u)) (update_of ou) w)
     for_is i m w is =
         ap (λ (q : Piece). q.does m w) (ap (piece (calls e)) (is ∙ ap (stmt.For i x u) (sym bs)) ∙ piece_for (calls e) i x u b)
-        ∙ ap (λ (v : Value). perhaps i (loop v ((piece (calls e) b).does (m + assign_count i + 1 + assign_count u)) (perhaps u) w)) (test_lent o x hx)
-        ∙ ap (λ (f : Then → Then). perhaps i (loop (test_of o) ((piece (calls e) b).does (m + assign_count i + 1 + assign_count u)) f w)) (update_lent ou u hu)
+        ∙ ap (λ (v : Value). begins i (loop v ((piece (calls e) b).does (m + init_count i + 1 + assign_count u)) (perhaps u) w)) (test_lent o x hx)
+        ∙ ap (λ (f : Then → Then). begins i (loop (test_of o) ((piece (calls e) b).does (m + init_count i + 1 + assign_count u)) f w)) (update_lent ou u hu)
 
-    pub for_ticks : (i : Option RAssign) → i ≡ None → s ≡ stmt.For i x u b' → (m n : ℕ) (r : Run) → From ((piece (calls e) s).does m) e n r → Ticks (turning (calls e) o ou b) e n r
-    for_ticks i none is m n r = loop_ticks e o ou b _ (m + assign_count None + 1 + assign_count u) n r (λ w. for_is None m w (is ∙ ap (λ (j : Option RAssign). stmt.For j x u b') none))
+    pub for_ticks : (i : Option RInit) → i ≡ None → s ≡ stmt.For i x u b' → (m n : ℕ) (r : Run) → From ((piece (calls e) s).does m) e n r → Ticks (turning (calls e) o ou b) e n r
+    for_ticks i none is m n r = loop_ticks e o ou b _ (m + init_count None + 1 + assign_count u) n r (λ w. for_is None m w (is ∙ ap (λ (j : Option RInit). stmt.For j x u b') none))
 
-    pub first_ticks : (i : Option RAssign) (a : RAssign) (e' : Evaluator) (l : Loop) → l.test ≡ o → l.update ≡ ou → l.body.now ≡ b → i ≡ Some a → s ≡ stmt.For i x u b' → e'.progress ≡ e.progress → todo e' ≡ item.Turn l ∷ todo e
-        → (m n : ℕ) (r : Run) → From ((piece (calls e) s).does m) e n r → Ticks (λ k w. acts (set a.place a.value) w.next) e' n r
-    first_ticks i a e' l lt lu lb some is same t m n r y =
-        let k = m + assign_count (Some a) + 1 + assign_count u in
-        (m, moved e e' _ (λ w. tick (acts (set a.place a.value) w.next)) (λ ms. k ∷ ms) n r same (λ ms s' n.
-        ap (λ (f : Then). f s' n) (for_is (Some a) m (ways_on e ms) (is ∙ ap (λ (j : Option RAssign). stmt.For j x u b') some)
-        ∙ ap (λ (f : Then). single (assign a) f)
-        (ap (λ (z : Option (Bor RExpr)). loop (test_of z) ((piece (calls e) b).does k) (update_of ou) (ways_on e ms)) (sym lt)
-        ∙ ap (λ (z : Option (Bor RAssign)). loop (test_of l.test) ((piece (calls e) b).does k) (update_of z) (ways_on e ms)) (sym lu)
-        ∙ ap (λ (z : RStmt). loop (test_of l.test) ((piece (calls e) z).does k) (update_of l.update) (ways_on e ms)) (sym lb)))
-        ∙ ap (λ (w : Ways). tick (acts (set a.place a.value) w.next) s' n) (sym (added e e' (item.Turn l) same t k ms))) y)
+    pub first_ticks : (i : Option RInit) (a : RInit) (y : Single) (e' : Evaluator) (l : Loop) → ((m : ℕ) → action y m ≡ begin a) → l.test ≡ o → l.update ≡ ou → l.body.now ≡ b → i ≡ Some a → s ≡ stmt.For i x u b' → e'.progress ≡ e.progress → todo e' ≡ item.Turn l ∷ todo e
+        → (m n : ℕ) (r : Run) → From ((piece (calls e) s).does m) e n r → Ticks (λ k w. acts (action y k) w.next) e' n r
+    first_ticks i a y e' l act lt lu lb some is same t m n r z =
+        let k = m + init_count (Some a) + 1 + assign_count u in (
+          m,
+          moved e e' _ (λ w. tick (acts (action y m) w.next)) (λ ms. k ∷ ms) n r same (λ ms s' n.
+              ap (λ (f : Then). f s' n) (for_is (Some a) m (ways_on e ms) (is ∙ ap (λ (j : Option RInit). stmt.For j x u b') some)
+              ∙ ap (λ (f : Then). single (begin a) f)
+              (ap (λ (z : Option (Bor RExpr)). loop (test_of z) ((piece (calls e) b).does k) (update_of ou) (ways_on e ms)) (sym lt)
+              ∙ ap (λ (z : Option (Bor RAssign)). loop (test_of l.test) ((piece (calls e) b).does k) (update_of z) (ways_on e ms)) (sym lu)
+              ∙ ap (λ (z : RStmt). loop (test_of l.test) ((piece (calls e) z).does k) (update_of l.update) (ways_on e ms)) (sym lb))
+              ∙ ap (λ (act : Action). single act (looping (calls e) l k (ways_on e ms))) (sym (act m)))
+              ∙ ap (λ (w : Ways). tick (acts (action y m) w.next) s' n) (sym (added e e' (item.Turn l) same t k ms))) z,
+        )
 
   pub do_stands : (x : RExpr) (b : RStmt) (c : Bor RStmt) (l : Loop) (e1 e2 : Evaluator) → c.now ≡ b → l.body.now ≡ b → test_of l.test ≡ test_value (Some x) → update_of l.update ≡ perhaps None → s ≡ stmt.Do b x
       → e1.progress ≡ e.progress → todo e1 ≡ item.Again l ∷ todo e → e2.progress ≡ e1.progress → todo e2 ≡ item.One c ∷ todo e1
@@ -193,16 +253,35 @@ module _ (e : Evaluator) (arms : List RArm) (last : Option RStmt) where
 
 -- ---- loops that are left
 
-pub left : (e e' : Evaluator) (o : Option Loop) → Skipped e e' o → e'.progress ≡ e.progress → (n : ℕ) (r : Run) → From (λ w. w.out_of_loop) e n r → Stands e' n r
-left e e' None k same n r x = moved e e' (λ w. w.out_of_loop) (λ w. w.next) (λ ms. ms) n r same (λ ms s n. ap (λ (f : Then). f s n) ((k.1 ms).0 ∙ ap (λ (is : List Item). (ways (calls e') is ms).next) (sym k.0))) x
-left e e' (Some l) k same n r x = moved e e' (λ w. w.out_of_loop) (λ w. w.next) (λ ms. (k ms).1) n r same (λ ms s n. ap (λ (f : Then). f s n) (k ms).2) x
+pub left_all : (e e' : Evaluator) → Skipped e e' None → e'.progress ≡ e.progress → (n : ℕ) (r : Run) → From (λ w. w.out_of_loop) e n r → Stands e' n r
+left_all e e' k same n r x = moved e e' (λ w. w.out_of_loop) (λ w. w.next) (λ ms. ms) n r same
+    (λ ms s n. ap (λ (f : Then). f s n) ((k.1 ms).0 ∙ ap (λ (is : List Item). (ways e'.progress.functions.now e'.progress.allowed is ms).next) (sym k.0))) x
 
-pub again_none : (e e' : Evaluator) (o : Option Loop) → Skipped e e' o → o ≡ None → e'.progress ≡ e.progress → (n : ℕ) (r : Run) → From (λ w. w.again) e n r → Stands e' n r
-again_none e e' None k none same n r x = moved e e' (λ w. w.again) (λ w. w.next) (λ ms. ms) n r same (λ ms s n. ap (λ (f : Then). f s n) ((k.1 ms).1 ∙ ap (λ (is : List Item). (ways (calls e') is ms).next) (sym k.0))) x
-again_none e e' (Some l) k none same n r x = absurd cc
+pub left_loop : (e e' : Evaluator) (end : End) (l : Loop) → end ≡ end'.Loop l → Skipped e e' (Some end) → e'.progress ≡ e.progress → (n : ℕ) (r : Run) → From (λ w. w.out_of_loop) e n r → Stands e' n r
+left_loop e e' end l is k same n r x = let k = subst (λ (x : End). Skipped e e' (Some x)) is k in moved e e' (λ w. w.out_of_loop) (λ w. w.next) (λ ms. (k ms).1) n r same (λ ms s n. ap (λ (f : Then). f s n) (k ms).2) x
 
-pub again_some : (e e1 e2 : Evaluator) (l : Loop) → Skipped e e1 (Some l) → e1.progress ≡ e.progress → e2.progress ≡ e1.progress → todo e2 ≡ item.Again l ∷ todo e1 → (n : ℕ) (r : Run) → From (λ w. w.again) e n r → Stands e2 n r
-again_some e e1 e2 l k same1 same2 t n r x = moved e e2 (λ w. w.again) (λ w. w.next) (λ ms. (k ms).0 ∷ (k ms).1) n r (same2 ∙ same1) (λ ms s n. ap (λ (f : Then). f s n) ((k ms).3 ∙ ap (λ (w : Ways). w.next) (sym (added e1 e2 (item.Again l) same2 t (k ms).0 (k ms).1)))) x
+pub again_all : (e e' : Evaluator) (o : Option End) → Skipped e e' o → o ≡ None → e'.progress ≡ e.progress → (n : ℕ) (r : Run) → From (λ w. w.again) e n r → Stands e' n r
+again_all e e' None k none same n r x = moved e e' (λ w. w.again) (λ w. w.next) (λ ms. ms) n r same
+    (λ ms s n. ap (λ (f : Then). f s n) ((k.1 ms).1 ∙ ap (λ (is : List Item). (ways e'.progress.functions.now e'.progress.allowed is ms).next) (sym k.0))) x
+again_all e e' (Some l) k none same n r x = absurd cc
+
+-- the item that ended the turn, or the call, was put back
+module _ (e e1 e2 : Evaluator) (end : End) (k : Skipped e e1 (Some end)) (same1 : e1.progress ≡ e.progress) (same2 : e2.progress ≡ e1.progress) (t : todo e2 ≡ end_item end ∷ todo e1) where
+  put_back : (go : Ways → Then) → ((ms : List ℕ) → go (ways_on e ms) ≡ (before (calls e1) (end_item end) (k ms).0 (behind (end_item end) e1 (k ms).1)).next) → (n : ℕ) (r : Run) → From go e n r → Stands e2 n r
+  put_back go h n r x = moved e e2 go (λ w. w.next) (λ ms. (k ms).0 ∷ (k ms).1) n r (same2 ∙ same1)
+      (λ ms s n. ap (λ (f : Then). f s n) (h ms ∙ ap (λ (w : Ways). w.next) (sym (added e1 e2 (end_item end) same2 t (k ms).0 (k ms).1)))) x
+
+pub left_call : (e e1 e2 : Evaluator) (end : End) (f : Frame) → end ≡ end'.Call f → Skipped e e1 (Some end) → e1.progress ≡ e.progress → e2.progress ≡ e1.progress → todo e2 ≡ item.Back f ∷ todo e1 → (n : ℕ) (r : Run) → From (λ w. w.out_of_loop) e n r → Stands e2 n r
+left_call e e1 e2 end f is k same1 same2 t =
+    let k' = subst (λ (x : End). Skipped e e1 (Some x)) is k in put_back e e1 e2 (end'.Call f) k' same1 same2 t (λ w. w.out_of_loop) (λ ms. (k' ms).2)
+
+pub again_call : (e e1 e2 : Evaluator) (end : End) (f : Frame) → end ≡ end'.Call f → Skipped e e1 (Some end) → e1.progress ≡ e.progress → e2.progress ≡ e1.progress → todo e2 ≡ item.Back f ∷ todo e1 → (n : ℕ) (r : Run) → From (λ w. w.again) e n r → Stands e2 n r
+again_call e e1 e2 end f is k same1 same2 t =
+    let k' = subst (λ (x : End). Skipped e e1 (Some x)) is k in put_back e e1 e2 (end'.Call f) k' same1 same2 t (λ w. w.again) (λ ms. (k' ms).3)
+
+pub again_loop : (e e1 e2 : Evaluator) (end : End) (l : Loop) → end ≡ end'.Loop l → Skipped e e1 (Some end) → e1.progress ≡ e.progress → e2.progress ≡ e1.progress → todo e2 ≡ item.Again l ∷ todo e1 → (n : ℕ) (r : Run) → From (λ w. w.again) e n r → Stands e2 n r
+again_loop e e1 e2 end l is k same1 same2 t =
+    let k' = subst (λ (x : End). Skipped e e1 (Some x)) is k in put_back e e1 e2 (end'.Loop l) k' same1 same2 t (λ w. w.again) (λ ms. (k' ms).3)
 
 -- ---- less is left to do
 

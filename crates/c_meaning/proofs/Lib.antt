@@ -1,5 +1,9 @@
+pub mod Act
 pub mod Agree
+pub mod Calls
 pub mod Did
 pub mod Going
 pub mod Enter
+pub mod Moved
 pub mod Turn
+pub mod Values

@@ -1,12 +1,11 @@
 -- Items that are taken, and tests that were given their tick.
-use Rattle.std.proofs.Common.{◌≡◌, ℕ, suc, ◌+◌, List, [], ◌∷◌, ◌++◌, map, reverse, Option, Some, None, Result, Ok, Err, Bool, true, false, cond, length, refl, sym, ap, ◌∙◌, arith}
+use Rattle.std.proofs.Common.{◌≡◌, ℕ, suc, ◌+◌, List, [], ◌∷◌, ◌++◌, map, reverse, Option, Some, None, Result, Ok, Bool, true, false, cond, refl, sym, ap, ◌∙◌}
 use Rattle.std.specs.Prelude.{if◌then◌else◌}
 use Rattle.std.specs.Borrow.{Bor}
 use Rattle.ckpt_base.specs.declared.trap.Trap.{Trap}
 use Rattle.ckpt_base.specs.declared.ending.Ending.TheVariants.{Ended, Going}
 use Rattle.ckpt_base.specs.declared.ending.Ending.{Ending}
-use Rattle.c_meaning.specs.declared.work.Task.TheVariants as task
-use Rattle.c_tree.specs.Layout.{first_words}
+use Rattle.c_tree.specs.Layout.{objects, first_words}
 use Rattle.c_tree.specs.declared.resolved.RFunction.{RFunction}
 use Rattle.c_tree.specs.declared.resolved.Resolved.{Resolved}
 use Rattle.ckpt_base.specs.Word.{word_holds, signed}
@@ -14,25 +13,36 @@ use Rattle.ckpt_base.specs.Event.{Event}
 use Rattle.ckpt_base.specs.Run as run
 use Rattle.ckpt_base.specs.Run.{Run}
 use Rattle.c_tree.specs.declared.resolved.RAssign.{RAssign}
-use Rattle.c_tree.specs.declared.resolved.RExpr.{RExpr}
 use Rattle.c_tree.specs.declared.resolved.RArm.{RArm, out-RArm}
 use Rattle.c_tree.specs.declared.resolved.RStmt.{RStmt}
 use Rattle.c_tree.specs.declared.resolved.RStmt.TheFolds.{fold_out-RArm}
 use Rattle.c_tree.specs.State.{State, Value, value, set, first_state}
-use Rattle.c_tree.specs.Meaning.{Then, Ways, Calls, Piece, ArmPiece, over, tick, given, acts, chooses, all_of, tests, piece_at, arm_at, piece, main_ways, calls_within, meaning}
+use Rattle.c_tree.specs.Meaning.{Then, Ways, Calls, Piece, ArmPiece, tick, given, acts, chooses, all_of, tests, piece_at, arm_at, piece, main_ways, calls_within, meaning}
 use Rattle.c_meaning.specs.declared.progress.Progress.{Progress}
 use Rattle.c_meaning.specs.declared.evaluator.Evaluator.{Evaluator}
 use Rattle.c_meaning.specs.declared.work.Loop.{Loop}
 use Rattle.c_meaning.specs.declared.work.Item.{Item}
 use Rattle.c_meaning.specs.declared.work.Item.TheVariants as item
-use Rattle.c_meaning.specs.declared.work.Task.{Task}
 use Rattle.c_meaning.specs.Plain.{IsPlain}
 use Rattle.c_meaning.specs.Memory.{variables, test_of}
-use Rattle.c_meaning.specs.Working.{todo, calls, before, first, others, ways, ways_on, state, update_of, looping, turn_ways, arm_piece, last_piece, does_task, From, Stands}
+use Rattle.c_meaning.specs.Working.{todo, calls, before, ways, ways_on, behind, state, update_of, looping, turn_ways, arm_piece, last_piece, From, Taken, Stands}
 use Rattle.c_meaning.proofs.Going.{moved, moved_at, added}
 use Rattle.c_meaning.proofs.Enter.{Ticks, turning, loop_ticks}
 
 -- ---- items that are taken
+
+-- the run goes on with an item that was taken away, and does not end a call
+pub came : (e : Evaluator) (i j : Item) (n : ℕ) (r : Run) → i ≡ j → ((ms : List ℕ) → behind j e ms ≡ ways_on e ms) → Taken i e n r → (m : ℕ) × From (λ w. (before (calls e) j m w).next) e n r
+came e i j n r is h x = (
+  x.number,
+  record {
+    events = x.events;
+    numbers = x.numbers;
+    shown = x.shown;
+    goes = x.goes ∙ ap (λ (j : Item). (before (calls e) j x.number (behind j e x.numbers)).next (state e.progress x.events) n) is
+        ∙ ap (λ (w : Ways). (before (calls e) j x.number w).next (state e.progress x.events) n) (h x.numbers);
+  },
+)
 
 -- the first of some statements stands before the others
 pub first_split : (e e' : Evaluator) (i : Item) (ss more : Bor (List RStmt)) (s : RStmt) → i ≡ item.Rest ss → ss.now ≡ s ∷ more.now → e'.progress ≡ e.progress → todo e' ≡ item.Rest more ∷ todo e
@@ -51,10 +61,13 @@ again_ticks e i l is none m n r = loop_ticks e l.test l.update l.body.now _ m n 
 
 pub update_ticks : (e e' : Evaluator) (i : Item) (l : Loop) (a : Bor RAssign) → i ≡ item.Again l → l.update ≡ Some a → e'.progress ≡ e.progress → todo e' ≡ item.Turn l ∷ todo e
     → (m n : ℕ) (r : Run) → From (λ w. (before (calls e) i m w).next) e n r → Ticks (λ k w. acts (set a.now.place a.now.value) w.next) e' n r
-update_ticks e e' i l a is some same t m n r y = (m, moved e e' (λ w. (before (calls e) i m w).next) (λ w. tick (acts (set a.now.place a.now.value) w.next)) (λ ms. m ∷ ms) n r same (λ ms s n. ap (λ (f : Then). f s n) (
-    ap (λ (j : Item). (before (calls e) j m (ways_on e ms)).next) is
-    ∙ ap (λ (u : Option (Bor RAssign)). update_of u (looping (calls e) l m (ways_on e ms))) some
-    ∙ ap (λ (w : Ways). tick (acts (set a.now.place a.now.value) w.next)) (sym (added e e' (item.Turn l) same t m ms)))) y)
+update_ticks e e' i l a is some same t m n r y = (
+  m,
+  moved e e' (λ w. (before (calls e) i m w).next) (λ w. tick (acts (set a.now.place a.now.value) w.next)) (λ ms. m ∷ ms) n r same (λ ms s n. ap (λ (f : Then). f s n) (
+      ap (λ (j : Item). (before (calls e) j m (ways_on e ms)).next) is
+      ∙ ap (λ (u : Option (Bor RAssign)). update_of u (looping (calls e) l m (ways_on e ms))) some
+      ∙ ap (λ (w : Ways). tick (acts (set a.now.place a.now.value) w.next)) (sym (added e e' (item.Turn l) same t m ms)))) y,
+)
 
 -- ---- tests
 
@@ -100,15 +113,11 @@ turn_holds e e1 e2 l v h t same1 t1 same2 t2 m n r = moved_at e e2 (turning (cal
 -- nothing is left to do
 pub at_end : (e e' : Evaluator) (n : ℕ) (r : Run) → todo e ≡ [] → e'.progress ≡ e.progress → Stands e n r → IsPlain e'.progress.output (Ended (signed 0)) e'.progress.ticks r
 at_end e e' n r t same x =
-    let g = x.goes ∙ ap (λ (is : List Item). (ways (calls e) is x.numbers).next (state e.progress x.events) n) t in record {
+    let g = x.goes ∙ ap (λ (is : List Item). (ways e.progress.functions.now e.progress.allowed is x.numbers).next (state e.progress x.events) n) t in record {
       same_output = ap (λ (p : Progress). p.output) same ∙ x.shown ∙ ap (λ (r : Run). run.output r.events) (sym g);
       same_ending = ap (λ (r : Run). r.ending) (sym g);
       same_ticks = ap (λ (p : Progress). p.ticks) same ∙ ap (λ (r : Run). r.ticks) (sym g);
     }
-
-pub no_items : {A : Type 0} → (xs : List A) → length xs ≡ 0 → xs ≡ []
-no_items [] h = refl
-no_items (x ∷ xs) h = absurd (omega arith)
 
 -- no tick is left
 pub none_left : (e : Evaluator) (to : Ways → Then) (n : ℕ) (r : Run) → n ≡ 0 → From (λ w. tick (to w)) e n r → IsPlain e.progress.output Going e.progress.ticks r
@@ -128,47 +137,23 @@ one_taken e to n k r z f = record {
   goes = f.goes ∙ ap (λ (n : ℕ). tick (to (ways_on e f.numbers)) (state e.progress f.events) n) z;
 }
 
-back_before : (c : Calls) (i : Item) (m : ℕ) (w : Ways) → (before c i m w).back ≡ w.back
-back_before c (item.One s) m w = refl
-back_before c (item.Rest ss) m w = refl
-back_before c (item.Tests arms last) m w = refl
-back_before c (item.Turn l) m w = refl
-back_before c (item.Again l) m w = refl
-
--- no item changes where a return goes
-back_stays : (c : Calls) (is : List Item) (ms : List ℕ) → (ways c is ms).back ≡ main_ways.back
-back_stays c [] ms = refl
-back_stays c (i ∷ is) ms = back_before c i (first ms) (ways c is (others ms)) ∙ back_stays c is (others ms)
-
-pub return_done : (e : Evaluator) (t : Task) (x : Bor RExpr) (a : ℕ) (g : Ending) → t ≡ task.Return x → Ok a ≡ value x.now (variables e.progress.memory) → g ≡ Ended (signed a)
-    → (m n : ℕ) (r : Run) → From (does_task (calls e) t m) e n r → IsPlain e.progress.output g e.progress.ticks r
-return_done e t x a g is h gs m n r f =
-    let w = ways_on e f.numbers in
-    let s = state e.progress f.events in
-    let k : r ≡ over (Ended (signed a)) s = f.goes ∙ ap (λ (u : Task). does_task (calls e) u m w s n) is
-        ∙ ap (λ (v : Result ℕ Trap). given v s (λ (a : ℕ). w.back a s n)) (sym h)
-        ∙ ap (λ (back : ℕ → Then). back a s n) (back_stays (calls e) (todo e) f.numbers) in record {
-      same_output = f.shown ∙ ap (λ (r : Run). run.output r.events) (sym k);
-      same_ending = gs ∙ ap (λ (r : Run). r.ending) (sym k);
-      same_ticks = ap (λ (r : Run). r.ticks) (sym k);
-    }
-
 -- ---- starts
 
-starts_at : (p : Progress) (tree : Resolved) (input : Bor (List ℕ)) → p.memory.cells ≡ first_words tree → p.memory.locals ≡ [] → p.input.now ≡ input.now → p.ticks ≡ 0 → state p [] ≡ first_state tree input.now
-starts_at p tree input cs ls is ks = rw (cs, ls, is, ks) refl
+starts_at : (p : Progress) (tree : Resolved) (input : Bor (List ℕ)) → p.memory.objects ≡ objects tree → p.memory.cells ≡ first_words tree → p.memory.locals ≡ [] → p.input.now ≡ input.now → p.ticks ≡ 0 → state p [] ≡ first_state tree input.now
+starts_at p tree input os cs ls is ks = rw (os, cs, ls, is, ks) refl
 
-pub started : (e : Evaluator) (p : Progress) (w : List Item) (b : Bor RStmt) (tree : Resolved) (input : Bor (List ℕ)) → e.progress ≡ p → todo e ≡ item.One b ∷ reverse w → w ≡ [] → b.now ≡ tree.main.body → p.functions.now ≡ tree.functions
-    → p.memory.cells ≡ first_words tree → p.memory.locals ≡ [] → p.input.now ≡ input.now → p.output ≡ [] → p.ticks ≡ 0 → (n : ℕ) → Stands e n (meaning tree input.now n)
-started e p w b tree input same t none bs fs cs ls is os ks n = record {
+pub started : (e : Evaluator) (p : Progress) (w : List Item) (b : Bor RStmt) (tree : Resolved) (input : Bor (List ℕ)) → e.progress ≡ p → todo e ≡ item.One b ∷ reverse w → w ≡ [] → b.now ≡ tree.main.body → p.functions.now ≡ tree.functions → p.allowed ≡ 1000
+    → p.memory.objects ≡ objects tree → p.memory.cells ≡ first_words tree → p.memory.locals ≡ [] → p.input.now ≡ input.now → p.output ≡ [] → p.ticks ≡ 0 → (n : ℕ) → Stands e n (meaning tree input.now n)
+started e p w b tree input same t none bs fs as' objs cs ls is os ks n = record {
   events = [];
   numbers = 0 ∷ [];
   shown = ap (λ (p : Progress). p.output) same ∙ os;
-  goes = sym (ap (λ (is : List Item). (ways (calls e) is (0 ∷ [])).next (state e.progress []) n) (t ∙ ap (λ (w : List Item). item.One b ∷ reverse w) none)
-      ∙ ap (λ (p : Progress). (piece (calls_within p.functions.now 1000) b.now).does 0 main_ways (state p []) n) same
-      ∙ ap (λ (x : RStmt). (piece (calls_within p.functions.now 1000) x).does 0 main_ways (state p []) n) bs
+  goes = sym (ap (λ (is : List Item). (ways e.progress.functions.now e.progress.allowed is (0 ∷ [])).next (state e.progress []) n) (t ∙ ap (λ (w : List Item). item.One b ∷ reverse w) none)
+      ∙ ap (λ (p : Progress). (piece (calls_within p.functions.now p.allowed) b.now).does 0 main_ways (state p []) n) same
+      ∙ ap (λ (x : RStmt). (piece (calls_within p.functions.now p.allowed) x).does 0 main_ways (state p []) n) bs
+      ∙ ap (λ (a : ℕ). (piece (calls_within p.functions.now a) tree.main.body).does 0 main_ways (state p []) n) as'
       ∙ ap (λ (fs : List RFunction). (piece (calls_within fs 1000) tree.main.body).does 0 main_ways (state p []) n) fs
-      ∙ ap (λ (s : State). (piece (calls_within tree.functions 1000) tree.main.body).does 0 main_ways s n) (starts_at p tree input cs ls is ks));
+      ∙ ap (λ (s : State). (piece (calls_within tree.functions 1000) tree.main.body).does 0 main_ways s n) (starts_at p tree input objs cs ls is ks));
 }
 
 pub plain_is : (bytes room out shown : List ℕ) (g : Ending) (k k' : ℕ) (r : Run) → bytes ≡ room ++ out → room ≡ [] → out ≡ shown → k' ≡ k → IsPlain shown g k r → IsPlain bytes g k' r

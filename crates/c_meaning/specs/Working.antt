@@ -1,5 +1,5 @@
 -- What the evaluator has left to do, and which runs go on from it.
-use Rattle.std.specs.Prelude.{ℕ, ◌≡◌, ◌+◌, ◌<◌, ◌≤◌, List, [], ◌∷◌, map, reverse, Option, Some, None, Result, Ok, Err}
+use Rattle.std.specs.Prelude.{ℕ, ◌≡◌, ◌+◌, ◌-◌, ◌<◌, ◌≤◌, List, [], ◌∷◌, map, reverse, Option, Some, None, Result, Ok, Err}
 use Rattle.std.specs.Borrow.{Bor}
 use Rattle.ckpt_base.specs.declared.trap.Trap.{Trap}
 use Rattle.ckpt_base.specs.declared.ending.Ending.{Ending}
@@ -9,21 +9,29 @@ use Rattle.ckpt_base.specs.Event.{Event}
 use Rattle.ckpt_base.specs.Run as run
 use Rattle.ckpt_base.specs.Run.{Run}
 use Rattle.c_tree.specs.declared.resolved.RAssign.{RAssign}
+use Rattle.c_tree.specs.declared.resolved.RFunction.{RFunction}
 use Rattle.c_tree.specs.declared.resolved.RArm.{RArm}
 use Rattle.c_tree.specs.declared.resolved.RStmt.{RStmt}
 use Rattle.c_tree.specs.declared.resolved.RStmt.TheOpen.{RStmt-F}
 use Rattle.c_tree.specs.declared.resolved.RStmt.TheFolds.{fold-RStmt, fold-RArm}
-use Rattle.c_tree.specs.State.{State, Action, value, declare, set, put}
-use Rattle.c_tree.specs.Meaning.{Then, Ways, Calls, Piece, ArmPiece, tick, given, acts, chooses, all_of, last_of, tests, loop_ways, loop, perhaps, piece_at, arm_at, piece, main_ways, calls_within}
+use Rattle.c_tree.specs.State.{State, Action, value, values, declare, set, store, put, write_out, take, input, exclude, checkpoint}
+use Rattle.c_tree.specs.Meaning.{Then, Ways, Calls, Piece, ArmPiece, tick, given, acts, chooses, stored, handed_on, all_of, last_of, tests, loop_ways, loop, perhaps, piece_at, arm_at, piece, body_ways, main_ways, calls_within}
 use Rattle.c_meaning.specs.declared.progress.Progress.{Progress}
 use Rattle.c_meaning.specs.declared.evaluator.Evaluator.{Evaluator}
 use Rattle.c_meaning.specs.declared.work.Loop.{Loop}
+use Rattle.c_meaning.specs.declared.work.Waits.{Waits}
+use Rattle.c_meaning.specs.declared.work.Waits.TheVariants as waits
+use Rattle.c_meaning.specs.declared.work.Frame.{Frame}
 use Rattle.c_meaning.specs.declared.work.Item.{Item}
 use Rattle.c_meaning.specs.declared.work.Item.TheVariants as item
+use Rattle.c_meaning.specs.declared.work.End.{End}
+use Rattle.c_meaning.specs.declared.work.End.TheVariants as end'
 use Rattle.c_meaning.specs.declared.work.Single.{Single}
 use Rattle.c_meaning.specs.declared.work.Single.TheVariants as single'
 use Rattle.c_meaning.specs.declared.work.Task.{Task}
 use Rattle.c_meaning.specs.declared.work.Task.TheVariants as task
+use Rattle.c_meaning.specs.declared.work.Next.{Next}
+use Rattle.c_meaning.specs.declared.work.Next.TheVariants as next'
 use Rattle.c_meaning.specs.Memory.{variables, test_of}
 use Rattle.c_meaning.specs.Plain.{IsPlain}
 
@@ -35,7 +43,7 @@ todo e = reverse e.work
 
 -- the calls that the evaluator may make
 abbrev pub calls : Evaluator → Calls
-calls e = calls_within e.progress.functions.now 1000
+calls e = calls_within e.progress.functions.now e.progress.allowed
 
 abbrev pub update_of : Option (Bor RAssign) → Then → Then
 update_of None = perhaps None
@@ -56,6 +64,11 @@ looping calls l m = loop (test_of l.test) ((piece calls l.body.now).does m) (upd
 abbrev pub turn_ways : Calls → Loop → ℕ → Ways → Ways
 turn_ways calls l m w = loop_ways (update_of l.update (looping calls l m w)) w
 
+-- what the answer of a call does, where the function that made it had these locals
+abbrev pub resumed : Waits → Ways → List ℕ → ℕ → Then
+resumed (waits.Store p) w = stored (store p.now) w.next
+resumed waits.Return w = handed_on w.back
+
 -- the ways on with one more item before them, whose first node has the number m
 abbrev pub before : Calls → Item → ℕ → Ways → Ways
 before calls (item.One s) m w = record w { next = (piece calls s.now).does m w }
@@ -63,6 +76,16 @@ before calls (item.Rest ss) m w = record w { next = all_of (map (piece calls) ss
 before calls (item.Tests arms last) m w = record w { next = tests (map (arm_piece calls) arms.now) (last_piece calls last.now) m w }
 before calls (item.Turn l) m w = record w { next = looping calls l m w }
 before calls (item.Again l) m w = turn_ways calls l m w
+before calls (item.Back f) m w = body_ways (resumed f.waits w f.locals)
+
+-- how many calls may be made behind an item, where so many may be made before it
+abbrev pub below : Item → ℕ → ℕ
+below (item.One s) a = a
+below (item.Rest ss) a = a
+below (item.Tests arms last) a = a
+below (item.Turn l) a = a
+below (item.Again l) a = a
+below (item.Back f) a = f.allowed
 
 abbrev pub first : List ℕ → ℕ
 first [] = 0
@@ -72,25 +95,39 @@ abbrev pub others : List ℕ → List ℕ
 others [] = []
 others (m ∷ ms) = ms
 
--- the ways on from what is left to do, where the first nodes of the items have these numbers
-abbrev pub ways : Calls → List Item → List ℕ → Ways
-ways calls [] ms = main_ways
-ways calls (i ∷ is) ms = before calls i (first ms) (ways calls is (others ms))
+-- the ways on from what is left to do, where so many calls may be made, and the first nodes of the items have these numbers
+abbrev pub ways : List RFunction → ℕ → List Item → List ℕ → Ways
+ways fs a [] ms = main_ways
+ways fs a (i ∷ is) ms = before (calls_within fs a) i (first ms) (ways fs (below i a) is (others ms))
 
 -- the ways on from an evaluator
 abbrev pub ways_on : Evaluator → List ℕ → Ways
-ways_on e ms = ways (calls e) (todo e) ms
+ways_on e ms = ways e.progress.functions.now e.progress.allowed (todo e) ms
 
--- what a statement that is done at once does
-abbrev pub action : Single → Action
-action (single'.Declare p e) = declare p.now e.now
-action (single'.Set p e) = set p.now e.now
-action (single'.Put e) = put e.now
+-- the ways on from behind an item that was taken away
+abbrev pub behind : Item → Evaluator → List ℕ → Ways
+behind i e ms = ways e.progress.functions.now (below i e.progress.allowed) (todo e) ms
+
+-- what a statement does that is done at once, at the node m
+abbrev pub action : Single → ℕ → Action
+action (single'.Declare p e) m = declare p.now e.now
+action (single'.Set p e) m = set p.now e.now
+action (single'.Input p) m = input p.now
+action (single'.Put e) m = put e.now
+action (single'.Print ps es) m = write_out ps.now es.now
+action single'.Checkpoint m = checkpoint m
+action (single'.Exclude k) m = exclude k
+
+-- a call with some values
+abbrev pub makes : Calls → Waits → ℕ → List ℕ → Ways → Then
+makes calls k f as' w s = calls f as' (resumed k w s.variables.locals) s
 
 -- what a task does after its tick
 abbrev pub does_task : Calls → Task → ℕ → Ways → Then
-does_task calls (task.Single a) m w = acts (action a) w.next
+does_task calls (task.Single a) m w = acts (action a m) w.next
+does_task calls (task.Call k f es) m w = λ s n. given (values es.now s.variables) s (λ as'. makes calls k f as' w s n)
 does_task calls (task.Return x) m w = λ s n. given (value x.now s.variables) s (λ a. w.back a s n)
+does_task calls task.ReturnInput m w = λ s. w.back (take s).0 (take s).1
 does_task calls (task.Choose a more last) m w =
     let p = arm_piece calls a.now in
     chooses p.test (p.body.does (m + 1) w) (tests (map (arm_piece calls) more.now) (last_piece calls last.now) (m + 1 + p.body.size) w)
@@ -113,23 +150,44 @@ pub record From (go : Ways → Then) (e : Evaluator) (n : ℕ) (r : Run) : Type 
 abbrev pub Stands : Evaluator → ℕ → Run → Type 0
 Stands e n r = From (λ w. w.next) e n r
 
+-- the run goes on with an item that was taken away
+pub record Taken (i : Item) (e : Evaluator) (n : ℕ) (r : Run) : Type 0 where
+  pub events : List Event
+  pub number : ℕ
+  pub numbers : List ℕ
+  pub shown : e.progress.output ≡ run.output events
+  pub goes : r ≡ (before (calls e) i number (behind i e numbers)).next (state e.progress events) n
+
+-- the run goes on with the answer of a call, whose end was taken away
+pub record Answered (f : Frame) (a : ℕ) (e : Evaluator) (n : ℕ) (r : Run) : Type 0 where
+  pub events : List Event
+  pub numbers : List ℕ
+  pub shown : e.progress.output ≡ run.output events
+  pub goes : r ≡ resumed f.waits (behind (item.Back f) e numbers) f.locals a (state e.progress events) n
+
 -- the run comes to a task first
 abbrev pub ComesTo : Task → Evaluator → ℕ → Run → Type 0
 ComesTo t e n r = (m : ℕ) × From (λ w. tick (does_task (calls e) t m w)) e n r
+
+-- the run is over
+abbrev pub IsOver : Ending → Evaluator → Run → Type 0
+IsOver ending e r = IsPlain e.progress.output ending e.progress.ticks r
 
 -- the run goes on with what is left to do, or comes to a task first
 abbrev pub Reached : Option Task → Evaluator → ℕ → Run → Type 0
 Reached None e n r = Stands e n r
 Reached (Some t) e n r = ComesTo t e n r
 
--- the run is over
-abbrev pub IsOver : Ending → Evaluator → Run → Type 0
-IsOver ending e r = IsPlain e.progress.output ending e.progress.ticks r
+-- the run comes to what comes next
+abbrev pub Comes : Next → Evaluator → ℕ → Run → Type 0
+Comes next'.On e n r = Stands e n r
+Comes (next'.Task t) e n r = ComesTo t e n r
+Comes (next'.Over ending) e n r = IsOver ending e r
 
--- the run is at its end, or comes to a task
-abbrev pub Settled : Option Task → Evaluator → ℕ → Run → Type 0
-Settled None e n r = IsOver (Ended (signed 0)) e r
-Settled (Some t) e n r = ComesTo t e n r
+-- the run comes to a task, or is over
+abbrev pub Settled : Result Task Ending → Evaluator → ℕ → Run → Type 0
+Settled (Ok t) e n r = ComesTo t e n r
+Settled (Err ending) e n r = IsOver ending e r
 
 -- the run goes on with what is left to do, or is over
 abbrev pub Acted : Option Ending → Evaluator → ℕ → Run → Type 0
@@ -143,9 +201,10 @@ Counted (Some ending) e e' until = Unit {0}
 
 -- ---- single statements
 
--- the functions and the ticks are the same
+-- the functions, the calls that may be made and the ticks are the same
 pub record Keeps (p p' : Progress) : Type 0 where
   pub functions : p'.functions ≡ p.functions
+  pub allowed : p'.allowed ≡ p.allowed
   pub ticks : p'.ticks ≡ p.ticks
 
 -- the action was done, or came to a trap
@@ -153,20 +212,57 @@ abbrev pub Did : Action → Progress → Progress → Result (Unit {0}) Trap →
 Did act p p' (Ok u) = (es : List Event) → p.output ≡ run.output es → (es' : List Event) × (p'.output ≡ run.output es') × (act (state p es) ≡ Ok (state p' es'))
 Did act p p' (Err t) = (p'.output ≡ p.output) × ((es : List Event) → act (state p es) ≡ Err t)
 
--- ---- the ends of turns
+-- an input byte was taken, or -1 at the end of the input
+pub record Took (a : ℕ) (p p' : Progress) : Type 0 where
+  pub output : p'.output ≡ p.output
+  pub took : (es : List Event) → (es' : List Event) × (run.output es' ≡ run.output es) × (take (state p es) ≡ (a, state p' es'))
+
+-- ---- calls
+
+-- how far the run has come where a function was called with these locals
+abbrev pub called_progress : List ℕ → Progress → Progress
+called_progress ls p = record p { memory = record p.memory { locals = ls }; allowed = p.allowed - 1 }
+
+-- how far the run has come where the function goes on that made a call
+abbrev pub restored : Frame → Progress → Progress
+restored f p = record p { memory = record p.memory { locals = f.locals }; allowed = f.allowed }
+
+-- a call was ended with its answer: the function that made it goes on, or is ended too; outside calls the program ends
+abbrev pub Ends : Option Waits → ℕ → Evaluator → ℕ → Run → Type 0
+Ends None a e n r = IsOver (Ended (signed a)) e r
+Ends (Some waits.Return) a e n r = From (λ w. w.back a) e n r
+Ends (Some (waits.Store p)) a e n r = From (λ w. acts (store p.now a) w.next) e n r
+
+-- ---- the ends of turns and calls
+
+abbrev pub end_item : End → Item
+end_item (end'.Loop l) = item.Again l
+end_item (end'.Call f) = item.Back f
 
 -- an item that leaves the ways out of its loop as they are
 abbrev pub Passes : Item → Type 0
 Passes (item.Again l) = ⊥
+Passes (item.Back f) = ⊥
 Passes (item.One s) = Unit {0}
 Passes (item.Rest ss) = Unit {0}
 Passes (item.Tests arms last) = Unit {0}
 Passes (item.Turn l) = Unit {0}
 
--- what was left of the innermost loop's turn was taken away, and the loop
-abbrev pub Skipped : Evaluator → Evaluator → Option Loop → Type 0
+-- an item that leaves the end of its call as it is
+abbrev pub IsNoCall : Item → Type 0
+IsNoCall (item.Again l) = Unit {0}
+IsNoCall (item.Back f) = ⊥
+IsNoCall (item.One s) = Unit {0}
+IsNoCall (item.Rest ss) = Unit {0}
+IsNoCall (item.Tests arms last) = Unit {0}
+IsNoCall (item.Turn l) = Unit {0}
+
+-- the ways out of a loop's turn are those of the item that ended it, and those of main's end where there was none
+abbrev pub Skipped : Evaluator → Evaluator → Option End → Type 0
 Skipped e e' None = (todo e' ≡ []) × ((ms : List ℕ) → ((ways_on e ms).out_of_loop ≡ main_ways.next) × ((ways_on e ms).again ≡ main_ways.next))
-Skipped e e' (Some l) = (ms : List ℕ) → (m : ℕ) × (ms' : List ℕ) × ((ways_on e ms).out_of_loop ≡ (ways_on e' ms').next) × ((ways_on e ms).again ≡ (turn_ways (calls e') l m (ways_on e' ms')).next)
+Skipped e e' (Some end) =
+    let i = end_item end in
+    (ms : List ℕ) → (m : ℕ) × (ms' : List ℕ) × ((ways_on e ms).out_of_loop ≡ (before (calls e') i m (behind i e' ms')).out_of_loop) × ((ways_on e ms).again ≡ (before (calls e') i m (behind i e' ms')).again)
 
 -- ---- how much is left to do
 
@@ -198,6 +294,7 @@ weight (item.Rest ss) = total (map size ss.now) + 1
 weight (item.Tests arms last) = last_weight last.now + 1
 weight (item.Turn l) = 1
 weight (item.Again l) = 2
+weight (item.Back f) = 1
 
 abbrev pub weights : List Item → ℕ
 weights [] = 0
@@ -207,3 +304,9 @@ weights (i ∷ is) = weight i + weights is
 abbrev pub Lighter : Option Task → ℕ → Evaluator → Type 0
 Lighter None n e = weights (todo e) < n
 Lighter (Some t) n e = Unit {0}
+
+-- less is left to do, where that comes next
+abbrev pub Nearer : Next → ℕ → Evaluator → Type 0
+Nearer next'.On n e = weights (todo e) < n
+Nearer (next'.Task t) n e = Unit {0}
+Nearer (next'.Over ending) n e = Unit {0}

@@ -8,6 +8,7 @@
 
 mod evaluator;
 mod memory;
+mod pointer;
 mod progress;
 mod run;
 mod value;

@@ -128,10 +128,10 @@ values_below_read zero fs ts w l e c = absurd (omega arith)
 values_below_read (suc d) fs ts w l e c = values_read d fs ts w (omega arith) e c
 
 pub ends_rparen : (s : Spot) (ts : List Token) → Ends (the s word.RParen ∷ ts)
-ends_rparen s ts = record { no_operator = refl; no_index = refl; no_call = refl }
+ends_rparen s ts = record { no_operator = refl; no_index = refl; no_call = refl; no_equals = refl; no_name = refl }
 
 pub ends_semi : (s : Spot) (ts : List Token) → Ends (the s word.Semi ∷ ts)
-ends_semi s ts = record { no_operator = refl; no_index = refl; no_call = refl }
+ends_semi s ts = record { no_operator = refl; no_index = refl; no_call = refl; no_equals = refl; no_name = refl }
 
 list_front : (fs : Listed Form) (ts : List Token) → may_begin (front (list.tokens tokens fs ts)) ≡ true
 list_front (list.Last f) ts = form_front f ts

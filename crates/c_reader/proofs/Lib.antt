@@ -5,3 +5,10 @@ pub mod Sound
 pub mod Listings
 pub mod Takes
 pub mod CallForms
+pub mod Assigning
+pub mod LocalForms
+pub mod SingleForms
+pub mod StatementsGrow
+pub mod StatementReads
+pub mod StatementSound
+pub mod StatementTurns

@@ -85,6 +85,14 @@ pub record Items {F A B : Type 0} (one : F → List Token → List Token) (tree 
   pub trees_are : gathered add b (trees tree forms) ≡ x.value
   pub tokens_are : ts ≡ tokens one forms x.rest
 
+-- an item has tokens
+abbrev pub Grows : {F : Type 0} → (F → List Token → List Token) → Type 0
+Grows {F} one = (f : F) (ts : List Token) → length ts < length (one f ts)
+
+pub all_grow : {F : Type 0} (one : F → List Token → List Token) → Grows one → (fs : Listed F) (ts : List Token) → length ts < length (tokens one fs ts)
+all_grow one g (Last f) ts = g f ts
+all_grow one g (Then f c fs) ts = let a = g f (the c word.Comma ∷ tokens one fs ts) in let b = all_grow one g fs ts in omega (arith, a, b)
+
 module _ {F A B : Type 0} (one : F → List Token → List Token) (tree : F → A) (Well : F → Type 0) (item : Reader A) (add : B → A → B) where
   items_last : (b : B) (ts : List Token) (y : Got A) (x : Got B) → Item one tree Well ts y → got (add b y.value) y.rest ≡ x → Items one tree Well add b ts x
   items_last b ts y x i e =
@@ -111,20 +119,12 @@ module _ {F A B : Type 0} (one : F → List Token → List Token) (tree : F → 
       let a = bind_some (item ts) (λ y. listed_on (listed item add n) (add b y.value) y.rest (after word.Comma y.rest)) x h in
       on_sound (listed item add n) b ts a.0 (after word.Comma a.0.rest) x (sound ts a.0 a.1) refl (λ us g. listed_sound sound n (add b a.0.value) us x g) a.2
 
-  -- an item has tokens
-  abbrev pub Grows : Type 0
-  Grows = (f : F) (ts : List Token) → length ts < length (one f ts)
-
-  pub all_grow : Grows → (fs : Listed F) (ts : List Token) → length ts < length (tokens one fs ts)
-  all_grow g (Last f) ts = g f ts
-  all_grow g (Then f c fs) ts = let a = g f (the c word.Comma ∷ tokens one fs ts) in let b = all_grow g fs ts in omega (arith, a, b)
-
   pub record Reads : Type 0 where
-    pub grows : Grows
+    pub grows : Grows one
     pub read : (f : F) (ts : List Token) → Well f → Ends ts → item (one f ts) ≡ Some (got (tree f) ts)
 
   ends_comma : (c : Spot) (ts : List Token) → Ends (the c word.Comma ∷ ts)
-  ends_comma c ts = record { no_operator = refl; no_index = refl; no_call = refl }
+  ends_comma c ts = record { no_operator = refl; no_index = refl; no_call = refl; no_equals = refl; no_name = refl }
 
   last_read : (n : ℕ) (b : B) (f : F) (rest : List Token) → Reads → Well f → Ends rest → after word.Comma rest ≡ None → listed item add (suc n) b (one f rest) ≡ Some (got (add b (tree f)) rest)
   last_read n b f rest r w e c =

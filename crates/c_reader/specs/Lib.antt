@@ -4,5 +4,7 @@ pub mod Reading
 pub mod Listing
 -- what the reader of calls computes, on lists
 pub mod ReadingCalls
+-- what the reader of statements computes, on lists
+pub mod ReadingStatements
 -- what the reader of the code answers, beside the reader on lists
 pub mod Gives

@@ -1,5 +1,5 @@
 -- States of a run, the values of expressions, and what single statements do to a state.
-use Rattle.std.specs.Prelude.{ℕ, ◌+◌, ◌-◌, ℤ, negsuc, neg_ℤ, not, if◌then◌else◌, List, [], ◌∷◌, ◌++◌, length, map, replicate, Option, Some, None, Result, Ok, Err, slice_index_or, slice_set}
+use Rattle.std.specs.Prelude.{ℕ, ◌+◌, ◌-◌, ◌%◌, ◌^◌, ℤ, negsuc, neg_ℤ, not, if◌then◌else◌, List, [], ◌∷◌, ◌++◌, length, map, replicate, Option, Some, None, Result, Ok, Err, slice_index_or, slice_set}
 use Rattle.std.specs.Fmt.{signed_decimal}
 use Rattle.ckpt_base.specs.declared.trap.Trap.{Trap}
 use Rattle.ckpt_base.specs.Word.{signed, word_of, word_sum, word_difference, word_product, word_negation, word_quotient, word_remainder, word_left_shift, word_right_shift, word_and, word_or, word_xor, word_inverse, word_less, word_at_most, word_equal, word_holds, truth_word, word_low_byte}
@@ -83,12 +83,16 @@ places Back a = neg_ℤ (signed a)
 abbrev pub fetched : ℕ → Value
 fetched p vs = cell_of vs.objects p >>= (λ c. Ok (slice_index_or vs.cells c 0))
 
+-- the pointer to place 0 of an object, as a word: no checked program has so many objects that this is another number
+abbrev pub object_word : ℕ → ℕ
+object_word o = pointer_word o 0 % 2 ^ 64
+
 -- the value of an expression, from those of its parts: operands go from left to right, and a pointer before the number that it is moved by
 abbrev pub value_at : RExpr-F Value → Value
 value_at (RExpr-F.Num n) vs = Ok (word_of n)
 value_at (RExpr-F.Cell c) vs = Ok (slice_index_or vs.cells c 0)
 value_at (RExpr-F.Local i) vs = Ok (slice_index_or vs.locals i 0)
-value_at (RExpr-F.Object o) vs = Ok (pointer_word o 0)
+value_at (RExpr-F.Object o) vs = Ok (object_word o)
 value_at RExpr-F.Null vs = Ok 0
 value_at (RExpr-F.Unary op x) vs = x vs >>= (λ a. Ok (unary op a))
 value_at (RExpr-F.Binary op x y) vs = x vs >>= (λ a. y vs >>= (λ b. binary op a b))

@@ -7,8 +7,11 @@ use Rattle.c_types.specs.Faults.{IsFirst}
 use Rattle.c_types.specs.Names.{Step, all}
 use Rattle.c_types.proofs.Faulty.{in_front}
 
-split : {X : Type 0} (xs : List X) (i : ℕ) (x : X) → i < length xs → x ≡ get_or xs i x → drop i xs ≡ x ∷ drop (i + 1) xs
+pub split : {X : Type 0} (xs : List X) (i : ℕ) (x : X) → i < length xs → x ≡ get_or xs i x → drop i xs ≡ x ∷ drop (i + 1) xs
 split xs i x h e = drop-cons xs i x h ∙ ap (λ y. y ∷ drop (suc i) xs) (sym e) ∙ sym (ap (λ n. x ∷ drop n xs) (add-one i))
+
+pub split_at : {X : Type 0} (xs : List X) (i : ℕ) (d : X) → i < length xs → drop i xs ≡ get_or xs i d ∷ drop (i + 1) xs
+split_at xs i d h = drop-cons xs i d h ∙ sym (ap (λ n. get_or xs i d ∷ drop n xs) (add-one i))
 
 -- a loop over parts, as far as it has come
 pub record Ongoing {X : Type 0} (p : X → Step) (xs : List X) (i : ℕ) (old now : Known) : Type 0 where

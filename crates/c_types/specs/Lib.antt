@@ -8,3 +8,13 @@ pub mod File
 pub mod Names
 -- .. and those of a file
 pub mod FileNames
+-- the types of expressions
+pub mod Types
+-- what a resolved tree names is there
+pub mod Fitting
+-- places, assignments and calls
+pub mod Places
+-- what statements become
+pub mod Statements
+-- what the parts of a body keep
+pub mod Kept

@@ -1,5 +1,5 @@
 -- A record that is read was spelled so, and one that is spelled so is read.
-use Rattle.std.proofs.Common.{◌≡◌, refl, sym, ◌∙◌, ap, subst, ℕ, ◌+◌, ◌-◌, ◌*◌, ◌%◌, ◌<◌, ◌≤◌, ◌^◌, nat_le, ◌==◌, ◌&&◌, ◌||◌, Bool, true, false, cond, List, [], ◌∷◌, ◌++◌, length, Ok, Err, arith, append_assoc, length-append}
+use Rattle.std.proofs.Common.{◌≡◌, refl, sym, ◌∙◌, ap, subst, ℕ, ◌+◌, ◌-◌, ◌*◌, ◌%◌, ◌<◌, ◌≤◌, ◌^◌, nat_le, nat_lt, ◌==◌, ◌&&◌, ◌||◌, Bool, true, false, cond, List, [], ◌∷◌, ◌++◌, length, Ok, Err, arith, append_assoc, length-append}
 use Rattle.std.specs.List.{flat_map}
 use Rattle.std.specs.Int.{w8, w16, w32, w64, to_be_bytes}
 use Rattle.std.proofs.lemmas.Bool.{eqb-true}
@@ -7,7 +7,7 @@ use Rattle.std.proofs.lemmas.Bool.Decides.{nat_tests}
 use Rattle.image_format.specs.declared.fields.Fields.{Fields}
 use Rattle.image_format.specs.declared.fields.Marks.{Marks}
 use Rattle.image_format.specs.Image.{WordRun, Image, IsBytes, IsDigest, AreFields, AreRuns, IsImage}
-use Rattle.image_format.specs.Spelling.{marks_bytes, places_bytes, counts_bytes, head_bytes, run_bytes, runs_length, length_with, spelling}
+use Rattle.image_format.specs.Spelling.{marks_bytes, places_bytes, counts_bytes, head_bytes, run_bytes, runs_length, length_with, text, spelling}
 use Rattle.image_format.specs.Reading.{◌>>=◌, bytes_at, number_at, field_at, marks_at, places_at, counts_at, Head, head_at, runs_at, Front, record_at}
 use Rattle.image_format.proofs.FieldLaws.{bind_ok, rule_ok, ok_is, Takes, Takes-then, wide8, wide16, wide32, wide64, number_takes, field_takes, bytes_takes, number_again, field_again, bytes_again}
 use Rattle.image_format.proofs.RunLaws.{length_runs, runs_take, runs_again}
@@ -159,7 +159,7 @@ record_taken bytes x fits e =
     let e12 = Takes-then h.1 (flat_map run_bytes r.0) r.1 (g.0 ∷ []) g.1 t1.0 t2' in
     let e02 = Takes-then bytes (head_bytes h.0.fields h.0.whole h.0.count) h.1 (flat_map run_bytes r.0 ++ g.0 ∷ []) g.1 t0.takes e12 in
     let whole : h.0.whole ≡ length_with r.0 = eqb-true _ _ d.0 ∙ size h.0.fields h.0.whole h.0.count r.0 g.0 g.1 bytes t0.fields e02.parts in
-    let parts : bytes ≡ spelling made.image g.0 ++ g.1 = e02.parts ∙ ap (λ (n : ℕ). head_bytes h.0.fields n h.0.count ++ (flat_map run_bytes r.0 ++ g.0 ∷ []) ++ g.1) whole ∙ ap (λ (n : ℕ). head_bytes h.0.fields (length_with r.0) n ++ (flat_map run_bytes r.0 ++ g.0 ∷ []) ++ g.1) (sym t1.1) in
+    let parts : bytes ≡ spelling made.image g.0 ++ g.1 = e02.parts ∙ ap (λ (n : ℕ). head_bytes h.0.fields n h.0.count ++ (flat_map run_bytes r.0 ++ g.0 ∷ []) ++ g.1) whole ∙ ap (λ (n : ℕ). head_bytes h.0.fields (length_with r.0) n ++ (flat_map run_bytes r.0 ++ g.0 ∷ []) ++ g.1) (sym t1.1) ∙ ap (λ (l : List ℕ). l ++ g.1) (sym (append_assoc (head_bytes h.0.fields (length_with r.0) (length r.0)) (flat_map run_bytes r.0) (g.0 ∷ []))) in
     let few = t0.count in let n = t1.1 in
     let is : IsImage made.image = record { fields = t0.fields; runs = t1.2; count = omega arith } in
     subst (λ (y : Front). IsImage y.image × (bytes ≡ spelling y.image y.gate ++ y.rest) × (y.gate < 256)) {x = made} d.1 (is, parts, t2.1)
@@ -254,28 +254,42 @@ runs_short least (r ∷ runs) le are =
     let more = runs_short (r.first + length r.words + 1) runs (omega arith) are.1 in
     omega arith
 
-pub record_again : (i : Image) (gate : ℕ) (rest : List ℕ) → IsImage i → gate < 256 → record_at (spelling i gate ++ rest) ≡ Ok (record { image = i; gate = gate; rest = rest })
+last_byte : (end gate : ℕ) (rest : List ℕ) → number_at w8 end (gate ∷ rest) ≡ Ok (gate, rest)
+last_byte end gate rest =
+    let long : nat_lt (length (gate ∷ rest)) 1 ≡ false = grind (arith, nat_tests) in
+    ap (λ (b : Bool). cond b (Err end) (Ok (gate, rest))) long
+
+pub record_again : (i : Image) (gate : ℕ) (rest : List ℕ) → IsImage i → record_at (spelling i gate ++ rest) ≡ Ok (record { image = i; gate = gate; rest = rest })
 unfolding record_at
-record_again i gate rest is small =
+record_again i gate rest is =
     let bytes = spelling i gate ++ rest in
     let whole = length_with i.runs in
     let count = length i.runs in
     let short = runs_short 0 i.runs (omega arith) is.runs in
     let after = flat_map run_bytes i.runs ++ (gate ∷ rest) in
-    let regrouped : bytes ≡ head_bytes i.fields whole count ++ after = append_assoc (head_bytes i.fields whole count) (flat_map run_bytes i.runs ++ gate ∷ []) rest ∙ ap (λ (l : List ℕ). head_bytes i.fields whole count ++ l) (append_assoc (flat_map run_bytes i.runs) (gate ∷ []) rest) in
+    let regrouped : bytes ≡ head_bytes i.fields whole count ++ after = append_assoc (text i) (gate ∷ []) rest ∙ append_assoc (head_bytes i.fields whole count) (flat_map run_bytes i.runs) (gate ∷ rest) in
     let head = ap head_at regrouped ∙ head_again i.fields whole count after is.fields (omega arith) (omega arith) is.count in
-    let byte : gate % 256 ≡ gate = omega arith in
-    let last : number_at w8 (length bytes) (gate ∷ rest) ≡ Ok (gate, rest) = ap (λ (n : ℕ). number_at w8 (length bytes) (n ∷ rest)) (sym byte) ∙ number_again w8 (2 ^ 8) wide8 gate (length bytes) rest small in
     let n = head_length i.fields whole count is.fields in
     let r = length_runs i.runs in
     let all = ap length regrouped ∙ length-append (head_bytes i.fields whole count) after in
     let most = length-append (flat_map run_bytes i.runs) (gate ∷ rest) in
     let size : (whole == length bytes - length rest) ≡ true = grind (arith, nat_tests) in
-    rw (head, runs_again (length bytes) 0 i.runs (gate ∷ rest) is.runs, last, size) refl
+    rw (head, runs_again (length bytes) 0 i.runs (gate ∷ rest) is.runs, last_byte (length bytes) gate rest, size) refl
 
-pub one_front : (a b : Image) (g h : ℕ) (x y : List ℕ) → IsImage a → IsImage b → g < 256 → h < 256 → spelling a g ++ x ≡ spelling b h ++ y → (a ≡ b) × (g ≡ h) × (x ≡ y)
-one_front a b g h x y is-a is-b lt-g lt-h same =
+-- how long a record is
+pub text_length : (i : Image) → IsImage i → length (text i) + 1 ≡ length_with i.runs
+text_length i is =
+    let n = head_length i.fields (length_with i.runs) (length i.runs) is.fields in
+    let r = length_runs i.runs in
+    let all = length-append (head_bytes i.fields (length_with i.runs) (length i.runs)) (flat_map run_bytes i.runs) in
+    omega arith
+
+pub image_short : (i : Image) → IsImage i → length_with i.runs ≤ 2097269
+image_short i is = let short = runs_short 0 i.runs (omega arith) is.runs in omega arith
+
+pub one_front : (a b : Image) (g h : ℕ) (x y : List ℕ) → IsImage a → IsImage b → spelling a g ++ x ≡ spelling b h ++ y → (a ≡ b) × (g ≡ h) × (x ≡ y)
+one_front a b g h x y is-a is-b same =
     let first : Front = record { image = a; gate = g; rest = x } in
     let second : Front = record { image = b; gate = h; rest = y } in
-    let e : first ≡ second = ok_is first second (sym (record_again a g x is-a lt-g) ∙ ap record_at same ∙ record_again b h y is-b lt-h) in
+    let e : first ≡ second = ok_is first second (sym (record_again a g x is-a) ∙ ap record_at same ∙ record_again b h y is-b) in
     (ap (λ (f : Front). f.image) e, ap (λ (f : Front). f.gate) e, ap (λ (f : Front). f.rest) e)

@@ -1,12 +1,10 @@
 -- A record is read part by part.
-use Rattle.std.proofs.Common.{◌≡◌, refl, sym, ◌∙◌, ap, subst, ℕ, ◌+◌, ◌-◌, ◌<◌, ◌≤◌, ◌^◌, ◌==◌, true, false, List, ◌∷◌, ◌++◌, length, Result, Ok, Err, IsOk, IfOk, arith, append_assoc, length-append}
-use Rattle.std.specs.Prelude.{slice_index}
-use Rattle.std.proofs.lemmas.List.{get_or_at}
+use Rattle.std.proofs.Common.{◌≡◌, refl, sym, ◌∙◌, ap, subst, ℕ, ◌+◌, ◌-◌, ◌≤◌, ◌^◌, ◌==◌, true, false, List, length, Result, Ok, Err, IsOk, IfOk, arith, length-append}
 use Rattle.image_format.specs.declared.fields.BadRecord.{BadRecord}
 use Rattle.std.specs.List.{flat_map}
 use Rattle.std.specs.Int.{w8, to_be_bytes}
-use Rattle.image_format.specs.Image.{WordRun, Image, IsBytes, IsImage}
-use Rattle.image_format.specs.Spelling.{head_bytes, run_bytes, runs_length, length_with, spelling, IsFront}
+use Rattle.image_format.specs.Image.{WordRun, Image, IsBytes, IsImage, AreRuns}
+use Rattle.image_format.specs.Spelling.{head_bytes, run_bytes, runs_length, length_with, IsFront}
 use Rattle.image_format.specs.Reading.{◌>>=◌, Gives, number_at, Head, head_at, runs_at, runs_of, rest_of, Front, record_at, image_at}
 use Rattle.image_format.proofs.FieldLaws.{bind_ok, ok_is, wide8, number_takes}
 use Rattle.image_format.proofs.RunLaws.{length_runs, runs_take}
@@ -74,6 +72,13 @@ size_is bytes h runs rest gate after fits is good last =
     let c : length rest ≡ 1 + length after = ap length g.0.parts ∙ length-append (to_be_bytes w8 gate) after in
     (omega arith, omega arith)
 
+-- the runs that were read are runs
+pub runs_are : (bytes : List ℕ) (h : Head) (runs rest : List ℕ) → IsBytes bytes → head_at bytes ≡ Ok (h, runs) → rest_of (runs_at h.count (length bytes) 0 runs) ≡ Ok rest → AreRuns 0 (runs_of (runs_at h.count (length bytes) 0 runs))
+runs_are bytes h runs rest fits is good =
+    let all = runs_at h.count (length bytes) 0 runs in
+    let t = head_taken bytes (h, runs) fits is in
+    (runs_take h.count (length bytes) 0 runs (runs_of all, rest) t.takes.rest_fits (rest_good all rest good)).2
+
 -- ---- the record as a whole
 
 image_front : (bytes : List ℕ) (i : Image) → image_at bytes ≡ Ok i → (x : Front) × (record_at bytes ≡ Ok x) × (x.image ≡ i)
@@ -87,24 +92,13 @@ image_found bytes i fits is =
     let t = record_taken bytes f.0 fits f.1 in
     subst (λ (j : Image). IsImage j × IsFront j bytes) f.2 (t.0, (f.0.gate, f.0.rest, t.1))
 
--- the last gate is a byte
-gate_fits : (i : Image) (gate : ℕ) (rest bytes : List ℕ) → IsBytes bytes → bytes ≡ spelling i gate ++ rest → gate < 256
-gate_fits i gate rest bytes fits parts =
-    let before = head_bytes i.fields (length_with i.runs) (length i.runs) ++ flat_map run_bytes i.runs in
-    let regrouped : bytes ≡ before ++ gate ∷ rest = parts ∙ simp append_assoc in
-    rw (← get_or_at before gate rest 0 (length before) refl) (subst (λ (l : List ℕ). slice_index l (length before) < 256) regrouped (fits (length before)))
-
-pub image_only : (bytes : List ℕ) (i : Image) → IsBytes bytes → IsImage i → IsFront i bytes → image_at bytes ≡ Ok i
-image_only bytes i fits is front =
-    let gate = front.0 in
-    let rest = front.1 in
-    let small = gate_fits i gate rest bytes fits front.2 in
-    ap (λ (r : Result Front ℕ). r >>= λ front. Ok front.image) (ap record_at front.2 ∙ record_again i gate rest is small)
+pub image_only : (bytes : List ℕ) (i : Image) → IsImage i → IsFront i bytes → image_at bytes ≡ Ok i
+image_only bytes i is front = ap (λ (r : Result Front ℕ). r >>= λ front. Ok front.image) (ap record_at front.2 ∙ record_again i front.0 front.1 is)
 
 pub found_of : (bytes : List ℕ) (r : Result Image BadRecord) → IsBytes bytes → Gives (λ v. v) r (image_at bytes) → IfOk r (λ i. IsImage i × IsFront i bytes)
 found_of bytes (Ok i) fits given = image_found bytes i fits given
 found_of bytes (Err e) fits given = tt
 
-pub only_of : (bytes : List ℕ) (r : Result Image BadRecord) → IsBytes bytes → Gives (λ v. v) r (image_at bytes) → (i : Image) → IsImage i → IsFront i bytes → Gives (λ v. v) r (Ok i)
-only_of bytes (Ok x) fits given i is front = sym (image_only bytes i fits is front) ∙ given
-only_of bytes (Err e) fits given i is front = sym (image_only bytes i fits is front) ∙ given
+pub only_of : (bytes : List ℕ) (r : Result Image BadRecord) → Gives (λ v. v) r (image_at bytes) → (i : Image) → IsImage i → IsFront i bytes → Gives (λ v. v) r (Ok i)
+only_of bytes (Ok x) given i is front = sym (image_only bytes i is front) ∙ given
+only_of bytes (Err e) given i is front = sym (image_only bytes i is front) ∙ given

@@ -127,6 +127,7 @@ record_written f memory runs whole old n1 n2 n3 cells is e1 e2 e3 =
     ∙ append_assoc (old ++ head_bytes f whole (length runs)) body (0 ∷ []) ∙ append_assoc old (head_bytes f whole (length runs)) (body ++ 0 ∷ [])
     ∙ ap (λ (n : ℕ). old ++ (head_bytes f n (length runs) ++ (body ++ 0 ∷ []))) size
     ∙ ap (λ (n : ℕ). old ++ (head_bytes f (length_with (filled memory runs)) n ++ (body ++ 0 ∷ []))) (sym (length_written memory runs))
+    ∙ ap (λ (l : List ℕ). old ++ l) (sym (append_assoc (head_bytes f (length_with (filled memory runs)) (length (filled memory runs))) body (0 ∷ [])))
 
 pub image_written : (f : Fields) (memory : List ℕ) (runs : List Run) → AreFields f → AreListed runs → HasCells memory runs → HasWords memory runs → IsImage (image_of f runs memory)
 image_written f memory runs fields rising cells words =

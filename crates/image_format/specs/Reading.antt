@@ -11,9 +11,9 @@ use Rattle.image_format.specs.Image.{WordRun, Image}
 use Rattle.image_format.specs.Spelling.{magic, is_open}
 
 infixl 10 ◌>>=◌
-abbrev pub ◌>>=◌ : {A B : Type 0} → Result A ℕ → (A → Result B ℕ) → Result B ℕ
+abbrev pub ◌>>=◌ : {A B E : Type 0} → Result A E → (A → Result B E) → Result B E
 (Ok x) >>= f = f x
-(Err place) >>= f = Err place
+(Err e) >>= f = Err e
 
 -- What a function returned, seen by view, is what reading gives.
 abbrev pub Gives : {X Y : Type 0} → (X → Y) → Result X BadRecord → Result Y ℕ → Type 0

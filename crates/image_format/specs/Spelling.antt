@@ -58,9 +58,13 @@ counts_bytes f count = to_be_bytes w16 f.directive ++ (((if f.left_out then 1 el
 abbrev pub head_bytes : Fields → ℕ → ℕ → List ℕ
 head_bytes f whole count = marks_bytes f.marks whole ++ (places_bytes f ++ counts_bytes f count)
 
+-- the record of an image without its last byte
+abbrev pub text : Image → List ℕ
+text i = head_bytes i.fields (length_with i.runs) (length i.runs) ++ flat_map run_bytes i.runs
+
 -- Each image has one spelling, but for the last byte, which is the gate of the next record.
 abbrev pub spelling : Image → ℕ → List ℕ
-spelling i gate = head_bytes i.fields (length_with i.runs) (length i.runs) ++ (flat_map run_bytes i.runs ++ gate ∷ [])
+spelling i gate = text i ++ gate ∷ []
 
 -- how many bytes the record of an image has
 abbrev pub image_length : Image → ℕ

@@ -6,7 +6,7 @@
 //! An [`ImageView`] is an image that lies in the bytes it was read from; contracts see the image.
 #![tactic(auto)]
 
-ghost use Rattle.std.specs.Prelude.{◌≡◌, ◌<◌, ◌++◌, ℕ, List};
+ghost use Rattle.std.specs.Prelude.{◌≡◌, ◌++◌, ℕ, List};
 ghost use Rattle.image_format.specs.Image.{Image, IsImage};
 ghost use Rattle.image_format.specs.Spelling.{spelling};
 
@@ -26,5 +26,5 @@ pub use write::{record_length, write_record};
 /// No record begins another, but for the last byte, the gate of the next record: what two records have in common at the
 /// front of the same bytes is all of them.
 pub fn one_spelling()
-    ensures { (a b : Image) (g h : ℕ) (x y : List ℕ) → IsImage a → IsImage b → g < 256 → h < 256 → spelling a g ++ x ≡ spelling b h ++ y → (a ≡ b) × (g ≡ h) × (x ≡ y) }
+    ensures { (a b : Image) (g h : ℕ) (x y : List ℕ) → IsImage a → IsImage b → spelling a g ++ x ≡ spelling b h ++ y → (a ≡ b) × (g ≡ h) × (x ≡ y) }
 {}

@@ -1,7 +1,7 @@
 //! A record, seen in the bytes that it was read from.
 ghost use Rattle.std.specs.Prelude.{◌≡◌, ◌≤◌, ◌<◌, ◌^◌, ◌+◌, ◌*◌, ◌++◌, ℕ, length, List, [], ◌∷◌, Ok, IfOk, MatchOption};
 ghost use Rattle.page_frames.specs.Words.{words_of};
-ghost use Rattle.image_format.specs.Image.{WordRun, Image, IsImage};
+ghost use Rattle.image_format.specs.Image.{WordRun, Image, AreRuns, IsImage};
 ghost use Rattle.image_format.specs.Spelling.{IsFront, image_length};
 ghost use Rattle.image_format.specs.Reading.{Gives, run_at, runs_at, image_at, rest_of};
 ghost use Rattle.image_format.specs.Runs.{IsWithin, Shows};
@@ -81,7 +81,7 @@ pub struct ImageView<'a> {
 
 impl<'a> Model for ImageView<'a> {
     ghost use Rattle.std.specs.Prelude.{◌≡◌, ◌≤◌, length, IsOk};
-    ghost use Rattle.image_format.specs.Image.{Image};
+    ghost use Rattle.image_format.specs.Image.{Image, AreRuns};
     ghost use Rattle.image_format.specs.Spelling.{length_with};
     ghost use Rattle.image_format.specs.Reading.{runs_at, runs_of};
 
@@ -89,7 +89,7 @@ impl<'a> Model for ImageView<'a> {
 
     ghost view = { λ v. record { fields = v.fields; runs = runs_of (runs_at v.count v.end 0 v.runs.now) } };
 
-    ghost invariant = { λ v. record { read : IsOk (runs_at v.count v.end 0 v.runs.now); few : v.count ≤ 131072; within : length v.runs.now ≤ v.end; size : v.size ≡ length_with (runs_of (runs_at v.count v.end 0 v.runs.now)) } };
+    ghost invariant = { λ v. record { read : IsOk (runs_at v.count v.end 0 v.runs.now); are : AreRuns 0 (runs_of (runs_at v.count v.end 0 v.runs.now)); few : v.count ≤ 131072; within : length v.runs.now ≤ v.end; size : v.size ≡ length_with (runs_of (runs_at v.count v.end 0 v.runs.now)) } };
 }
 
 /// Reads the record at the front of the bytes, whatever follows, or answers the place of the first field that breaks its rule.
@@ -140,6 +140,7 @@ impl<'a> ImageView<'a> {
     /// The runs of cells that the image lists, one after another.
     pub fn runs(&self) -> Runs<'a>
         ensures answer { result ≡ self.now.runs }
+        ensures rising { AreRuns 0 self.now.runs }
     {
         Runs {
             rest: self.runs,

@@ -1,7 +1,7 @@
 use Rattle.std.proofs.Common.{arith, ap, Ok}
 use Rattle.std.proofs.lemmas.Result.{err_from_is_err_and}
 use Rattle.image_format.specs.Reading.{◌>>=◌, Front}
-use Rattle.image_format.proofs.ViewLaws.{rest_ok, runs_begin, bad_head, bad_runs, bad_gate, bad_size, front_is, size_is}
+use Rattle.image_format.proofs.ViewLaws.{rest_ok, runs_begin, bad_head, bad_runs, bad_gate, bad_size, front_is, size_is, runs_are}
 use Rattle.image_format.proofs.view.read_front.Goals as goal
 
 pub behind_runs-requires : goal.behind_runs-requires
@@ -37,6 +37,7 @@ invariant_of-result c =
     let all = runs_begin c.args.bytes.now _ _ (λ i. omega (arith, c.type_inv.bytes i)) c.in_ok-head.ensures.exact in
     record {
       read = rest_ok _ _ c.in_ok-rest.ensures.exact;
+      are = runs_are c.args.bytes.now _ _ _ (λ i. omega (arith, c.type_inv.bytes i)) c.in_ok-head.ensures.exact c.in_ok-rest.ensures.exact;
       few = c.in_ok-head.ensures.few;
       within = omega arith;
       size = (size_is c.args.bytes.now _ _ _ _ _ (λ i. omega (arith, c.type_inv.bytes i)) c.in_ok-head.ensures.exact c.in_ok-rest.ensures.exact c.in_ok-rest-2.ensures).0;

@@ -1,5 +1,4 @@
-use Rattle.std.proofs.Common.{◌≡◌, true, false, refl, sym, ◌∙◌}
-use Rattle.ckpt_base.specs.Word.{word_holds}
+use Rattle.std.proofs.Common.{refl, sym, ◌∙◌}
 use Rattle.c_meaning.proofs.Turn.{arm_holds, arm_fails}
 use Rattle.c_meaning.proofs.evaluator.Evaluator.choose.Goals as goal
 

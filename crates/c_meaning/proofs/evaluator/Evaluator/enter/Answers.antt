@@ -1,5 +1,5 @@
 use Rattle.std.proofs.Common.{refl}
-use Rattle.c_meaning.proofs.Enter.{declare_ticks, set_ticks, put_ticks, return_ticks, while_ticks, for_ticks, first_ticks, do_stands, block_stands, if_is}
+use Rattle.c_meaning.proofs.Enter.{declare_ticks, set_ticks, put_ticks, print_ticks, input_ticks, exclude_ticks, call_ticks, return_call_ticks, return_ticks, while_ticks, for_ticks, first_ticks, do_stands, block_stands, if_is}
 use Rattle.c_meaning.proofs.evaluator.Evaluator.enter.Goals as goal
 
 pub returns-in-Declare-clause-reached : goal.returns-in-Declare-clause-reached
@@ -23,17 +23,32 @@ returns-in-While-clause-reached c = while_ticks c.args.self.now c.args.stmt.now 
 pub returns-in_ok-add-in-Do-2-clause-reached : goal.returns-in_ok-add-in-Do-2-clause-reached
 returns-in_ok-add-in-Do-2-clause-reached c =
     do_stands c.args.self.now c.args.stmt.now c.in-Do.test c.in-Do.body c.get-body.result _ c.add.new.self c.add-in-Do.new.self c.get-body.ensures c.get-body.ensures refl refl c.in-Do.is
-        c.add.ensures.same c.in_ok-add-in-Do.ensures.added c.add-in-Do.ensures.same c.in_ok-add-in-Do-2.ensures.added
+    c.add.ensures.same c.in_ok-add-in-Do.ensures.added c.add-in-Do.ensures.same c.in_ok-add-in-Do-2.ensures.added
 
 pub returns-in-None-clause-reached : goal.returns-in-None-clause-reached
 returns-in-None-clause-reached c =
     for_ticks c.args.self.now c.args.stmt.now c.lent.result c.lent-in-For.result c.in-For.test c.in-For.update c.get-in-For.result.now c.in-For.body c.lent.ensures.answer c.lent-in-For.ensures.answer c.get-in-For.ensures
-        c.in-For.init c.in-None.is c.in-For.is
+    c.in-For.init c.in-None.is c.in-For.is
 
 pub returns-in_ok-add-in-Some-clause-reached : goal.returns-in_ok-add-in-Some-clause-reached
 returns-in_ok-add-in-Some-clause-reached c =
     first_ticks c.args.self.now c.args.stmt.now c.lent.result c.lent-in-For.result c.in-For.test c.in-For.update c.get-in-For.result.now c.in-For.body c.lent.ensures.answer c.lent-in-For.ensures.answer c.get-in-For.ensures
-        c.in-For.init c.in-Some.init c.add-in-Some.new.self _ refl refl refl c.in-Some.is c.in-For.is c.add-in-Some.ensures.same c.in_ok-add-in-Some.ensures.added
+    c.in-For.init c.in-Some.init c.first_of.result c.add-in-Some.new.self _ c.first_of.ensures.answer refl refl refl c.in-Some.is c.in-For.is c.add-in-Some.ensures.same c.in_ok-add-in-Some.ensures.added
 
 pub returns-in_ok-add-in-Block-clause-reached : goal.returns-in_ok-add-in-Block-clause-reached
 returns-in_ok-add-in-Block-clause-reached c = block_stands c.args.self.now c.args.stmt.now c.in-Block.stmts c.as_slice-in-Block.result c.add-in-Block.new.self c.in-Block.is c.as_slice-in-Block.ensures c.add-in-Block.ensures.same c.in_ok-add-in-Block.ensures.added
+
+pub returns-in-Call-clause-reached : goal.returns-in-Call-clause-reached
+returns-in-Call-clause-reached c = call_ticks c.args.self.now c.args.stmt.now c.in-Call.place c.in-Call.function c.in-Call.args c.in-Call.is
+
+pub returns-in-ReturnCall-clause-reached : goal.returns-in-ReturnCall-clause-reached
+returns-in-ReturnCall-clause-reached c = return_call_ticks c.args.self.now c.args.stmt.now c.in-ReturnCall.function c.in-ReturnCall.args c.in-ReturnCall.is
+
+pub returns-in-Input-clause-reached : goal.returns-in-Input-clause-reached
+returns-in-Input-clause-reached c = input_ticks c.args.self.now c.args.stmt.now c.in-Input.place c.in-Input.is
+
+pub returns-in-Print-clause-reached : goal.returns-in-Print-clause-reached
+returns-in-Print-clause-reached c = print_ticks c.args.self.now c.args.stmt.now c.in-Print.pieces c.in-Print.args c.in-Print.is
+
+pub returns-in-Exclude-clause-reached : goal.returns-in-Exclude-clause-reached
+returns-in-Exclude-clause-reached c = exclude_ticks c.args.self.now c.args.stmt.now c.in-Exclude.k c.in-Exclude.is

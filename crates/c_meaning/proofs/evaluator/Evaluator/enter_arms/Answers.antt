@@ -1,4 +1,4 @@
-use Rattle.c_meaning.proofs.Turn.{no_items}
+use Rattle.c_meaning.proofs.Going.{no_items}
 use Rattle.c_meaning.proofs.Enter.{arm_ticks, last_stands}
 use Rattle.c_meaning.proofs.evaluator.Evaluator.enter_arms.Goals as goal
 

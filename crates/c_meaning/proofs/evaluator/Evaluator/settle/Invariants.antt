@@ -5,7 +5,10 @@ use Rattle.c_meaning.proofs.evaluator.Evaluator.settle.Given as goal
 
 -- the run goes on as it did
 abbrev pub invariant-items : goal.invariant-items
-invariant-items l = (l.self.progress ≡ l.fn.self.progress) × ((n : ℕ) (r : Run) → Stands l.fn.self n r → Stands l.self n r)
+invariant-items l = record {
+  ticks : l.self.progress.ticks ≡ l.fn.self.progress.ticks;
+  goes : (n : ℕ) (r : Run) → Stands l.fn.self n r → Stands l.self n r;
+}
 
 abbrev pub decreases-items : goal.decreases-items
 decreases-items l = weights (todo l.self)

@@ -1,5 +1,5 @@
-use Rattle.std.proofs.Common.{◌≡◌, ◌≤◌, ℕ, List}
-use Rattle.c_meaning.specs.Working.{todo, ways_on, weights}
+use Rattle.std.proofs.Common.{◌≡◌, ◌≤◌}
+use Rattle.c_meaning.specs.Working.{todo, weights}
 use Rattle.c_meaning.proofs.Going.{Passed}
 use Rattle.c_meaning.proofs.evaluator.Evaluator.skip.Given as goal
 
