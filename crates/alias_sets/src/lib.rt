@@ -11,7 +11,3 @@ mod numbering;
 mod statements;
 
 pub use flows::PointerVar;
-
-
-
-

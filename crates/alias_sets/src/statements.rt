@@ -113,11 +113,7 @@ fn place_variable(function: Option<u32>, place: &Option<RPlace>) -> Option<Point
 }
 
 #[cycle(flows)]
-fn stmt_flows(
-    flows: &mut Items<Flow>,
-    function: Option<u32>,
-    stmt: &RStmt,
-) -> Result<(), NoMemory>
+fn stmt_flows(flows: &mut Items<Flow>, function: Option<u32>, stmt: &RStmt) -> Result<(), NoMemory>
     ensures answer { OnOk result (flows.new ≡ flows.old ++ spec.stmt_flows function stmt.now) }
 {
     match stmt {

@@ -1,0 +1,2 @@
+-- variables that compare alike are one
+pub mod Variables
