@@ -4,3 +4,5 @@ pub mod Flows
 pub mod Points
 -- numbers of variables
 pub mod Numbers
+-- the flows of a text as a graph
+pub mod Nodes

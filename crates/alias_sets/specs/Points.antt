@@ -19,9 +19,13 @@ abbrev pub IsChain : List Flow → PointerVar → List PointerVar → ℕ → Ty
 IsChain fs v [] o = HasFlow fs v (source'.Object o)
 IsChain fs v (u ∷ w) o = HasFlow fs v (source'.Variable u) × IsChain fs u w o
 
+-- some chain of flows leads from the address of object o to v
+abbrev pub HasChain : List Flow → PointerVar → ℕ → Type 0
+HasChain fs v o = (w : List PointerVar) × IsChain fs v w o
+
 -- variable v may hold a pointer to object o
 abbrev pub MayHold : Resolved → PointerVar → ℕ → Type 0
-MayHold p v o = (w : List PointerVar) × IsChain (flows p) v w o
+MayHold p v o = HasChain (flows p) v o
 
 abbrev pub MayCome : Resolved → Source → ℕ → Type 0
 MayCome p source'.Nothing o = ⊥
@@ -42,6 +46,10 @@ pub record PointsView : Type 0 where
 -- the row of v has object o
 abbrev pub Holds : PointsView → PointerVar → ℕ → Type 0
 Holds s v o = (n : ℕ) × (slice_get s.variables n ≡ Some v) × (in_row s.rows n o ≡ true)
+
+-- the rows have exactly the objects from which chains of the flows lead to their variables
+abbrev pub AreChains : List Flow → PointsView → Type 0
+AreChains fs s = (v : PointerVar) (o : ℕ) → Holds s v o ↔ HasChain fs v o
 
 -- what was found is what the program's variables may hold
 abbrev pub ArePointsOf : Resolved → PointsView → Type 0

@@ -7,7 +7,9 @@
 
 mod flows;
 mod numbering;
-// mod points;
+mod points;
+mod nodes;
 mod statements;
 
 pub use flows::PointerVar;
+pub use points::{Points, find_points};
