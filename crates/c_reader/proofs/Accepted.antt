@@ -1,11 +1,11 @@
 -- A text that was read, or not, spells just that.
-use Rattle.std.proofs.Common.{◌≡◌, ◌<◌, ◌≤◌, List, ℕ, length, Option, Some, None, Ok, Err, sym, ap, ◌∙◌, refl, arith}
+use Rattle.std.proofs.Common.{◌≡◌, ◌<◌, ◌≤◌, List, ℕ, length, Some, None, Ok, sym, ap, ◌∙◌, refl, arith}
 use Rattle.c_tree.specs.declared.token.Token.{Token}
 use Rattle.c_tree.specs.declared.tree.Constant.{Constant}
 use Rattle.c_tree.specs.declared.tree.Item.{Item}
 use Rattle.c_tree.specs.declared.tree.Program.{Program}
 use Rattle.c_tree.specs.Scan.{Scanned, scan}
-use Rattle.c_tree.specs.Programs.{longest, Spells, IsTextOf}
+use Rattle.c_tree.specs.Programs.{longest, IsTextOf}
 use Rattle.c_reader.specs.declared.fault.ReadFault.{ReadFault}
 use Rattle.c_reader.specs.declared.fault.ReadFault.TheVariants as fault
 use Rattle.c_reader.specs.Scanning.{FailsScan}

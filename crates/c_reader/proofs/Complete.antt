@@ -1,5 +1,5 @@
 -- What is spelled is read: expressions.
-use Rattle.std.proofs.Common.{◌≡◌, ℕ, zero, suc, ◌+◌, ◌<◌, ◌≤◌, List, [], ◌∷◌, Option, Some, None, refl, sym, ap, ◌∙◌, subst, arith, false}
+use Rattle.std.proofs.Common.{◌≡◌, ℕ, zero, suc, ◌+◌, ◌<◌, ◌≤◌, List, ◌∷◌, Option, Some, None, refl, sym, ap, ◌∙◌, subst, arith, false}
 use Rattle.std.specs.Prelude.{max}
 use Rattle.c_tree.specs.declared.token.Token.{Token}
 use Rattle.c_tree.specs.declared.token.Word.{Word}
@@ -11,7 +11,7 @@ use Rattle.c_tree.specs.declared.tree.Binary.TheVariants as binary
 use Rattle.c_tree.specs.declared.tree.Expr.TheVariants as expr'
 use Rattle.c_tree.specs.Scan.{Spot}
 use Rattle.c_tree.specs.Expressions.{Form, Num, Eof, Null, Named, Index, Address, AddressAt, Brackets, Sign, Both, the, name_at, sign, binds, mark, level, IsWell, tree, tokens, depth}
-use Rattle.c_reader.specs.Reading.{Got, got, Deep, deep, ◌>>=◌, Inner, after, is_name, named_of, address_of, with_expr, closed, signed, first, operator, joined, turn, more, whole, below, expr, value}
+use Rattle.c_reader.specs.Reading.{got, Deep, deep, ◌>>=◌, Inner, after, is_name, named_of, address_of, with_expr, closed, signed, first, operator, joined, turn, more, whole, below, expr, value}
 use Rattle.c_reader.proofs.TokenKinds.{lt_true, lt_false}
 
 -- the next token binds looser than this

@@ -1,10 +1,10 @@
 -- The items of a text, one after another.
-use Rattle.std.proofs.Common.{◌≡◌, ℕ, zero, suc, ◌<◌, ◌≤◌, List, [], ◌∷◌, ◌++◌, length, Option, Some, None, refl, sym, ap, ◌∙◌, arith, Bool, false}
+use Rattle.std.proofs.Common.{◌≡◌, ℕ, zero, suc, ◌<◌, ◌≤◌, List, [], ◌∷◌, ◌++◌, length, Some, None, refl, sym, ap, ◌∙◌, arith, Bool, false}
 use Rattle.std.specs.Prelude.{◌==◌}
 use Rattle.std.proofs.lemmas.Grind.{common_steps}
 use Rattle.c_tree.specs.declared.token.Token.{Token}
 use Rattle.c_tree.specs.declared.tree.Item.{Item}
-use Rattle.c_reader.specs.Reading.{Got, got, ◌>>=◌}
+use Rattle.c_reader.specs.Reading.{Got, ◌>>=◌}
 use Rattle.c_reader.specs.ReadingItems.{item, file, program}
 use Rattle.c_reader.proofs.ItemForms.{item_takes}
 

@@ -1,7 +1,6 @@
 -- What is read is spelled, and what is spelled is read: functions, `main` and whole texts.
-use Rattle.std.proofs.Common.{◌≡◌, ℕ, zero, suc, ◌+◌, ◌<◌, ◌≤◌, List, [], ◌∷◌, ◌++◌, length, Option, Some, None, refl, sym, ap, ◌∙◌, subst, arith, append_assoc, append-nil, true, false, Bool}
+use Rattle.std.proofs.Common.{◌≡◌, ℕ, zero, suc, ◌<◌, ◌≤◌, List, [], ◌∷◌, ◌++◌, length, Option, Some, None, refl, sym, ap, ◌∙◌, subst, arith, append_assoc, append-nil, true, false, Bool}
 use Rattle.c_tree.specs.declared.token.Token.{Token}
-use Rattle.c_tree.specs.declared.token.Word.{Word}
 use Rattle.c_tree.specs.declared.token.Word.TheVariants as word
 use Rattle.c_tree.specs.declared.tree.Binary.TheVariants as binary
 use Rattle.c_tree.specs.declared.tree.Name.{Name}
@@ -14,12 +13,11 @@ use Rattle.c_tree.specs.Expressions.{the, a_name, name_at}
 use Rattle.c_tree.specs.Listed.{Listed}
 use Rattle.c_tree.specs.Listed as list
 use Rattle.c_tree.specs.Statements.{StmtForms, star_tokens, is_pointer, trees, tokens_all, AreWell, depth_all, first_line}
-use Rattle.c_tree.specs.Declarations.{BehindForm, Starts, Array, behind_tokens, DeclForm, Plain, Pointer, decl_tokens, decl_tree, ParameterForm, parameter_name, parameter_tokens, parameter_tree, named_tree, HeadForm, Nothing, Void, Parameters, head_tokens, head_trees, with_next, all_named}
+use Rattle.c_tree.specs.Declarations.{BehindForm, Starts, Array, behind_tokens, DeclForm, Plain, Pointer, decl_tokens, ParameterForm, parameter_name, parameter_tokens, parameter_tree, named_tree, HeadForm, Nothing, Void, Parameters, head_tokens, head_trees, with_next, all_named}
 use Rattle.c_tree.specs.Declarations.BehindForm.{Nothing as BehindNothing}
 use Rattle.c_tree.specs.Programs.{ItemForm, Objects, Prototype, Function, Main, void_tokens, body_tokens, item_tokens, item_tree, IsWellItem, item_depth, tokens, items}
 use Rattle.c_tree.specs.Programs as form
-use Rattle.c_reader.specs.Reading.{Got, got, Read, ◌>>=◌, after, name, is_name, operator}
-use Rattle.c_reader.specs.Listing.{listed}
+use Rattle.c_reader.specs.Reading.{Got, got, ◌>>=◌, after, name, is_name, operator}
 use Rattle.c_reader.specs.ReadingCalls.{is_there}
 use Rattle.c_reader.specs.ReadingStatements.{block, stmt_within}
 use Rattle.c_reader.specs.ReadingItems.{objects, parameter_by, named_of, named, starred_of, parameter, add, parameters, heads_some, heads_of, heads, body, function_by, finished, callable, item_of, named_item, long_of, long_item, first_constants, past, main_head, main_item, item_at, item, file, program}
@@ -31,7 +29,7 @@ use Rattle.c_reader.proofs.CallForms.{ends_rparen}
 use Rattle.c_reader.proofs.LocalForms.{star_grows}
 use Rattle.c_reader.proofs.StatementsGrow.{stmts_grow}
 use Rattle.c_reader.proofs.StatementReads.{block_reads}
-use Rattle.c_reader.proofs.StatementSound.{SpeltBlock, good_block}
+use Rattle.c_reader.proofs.StatementSound.{good_block}
 use Rattle.c_reader.proofs.ObjectForms.{objects_read, objects_sound, decl_grows}
 
 -- ---- parameters

@@ -1,7 +1,6 @@
 -- Runs and marks take bytes.
-use Rattle.std.proofs.Common.{◌≡◌, ℕ, ◌+◌, ◌<◌, ◌≤◌, List, [], ◌∷◌, length, get_or, Option, Some, None, refl, sym, ap, ◌∙◌, arith, true, false, Bool, subst}
-use Rattle.std.proofs.lemmas.Grind.{common_steps}
-use Rattle.std.specs.Prelude.{◌==◌, ◌&&◌, nat_eq}
+use Rattle.std.proofs.Common.{◌≡◌, ℕ, ◌<◌, ◌≤◌, List, [], ◌∷◌, length, get_or, Option, Some, None, refl, sym, ap, ◌∙◌, arith, true, false, Bool, subst}
+use Rattle.std.specs.Prelude.{◌==◌, ◌&&◌}
 use Rattle.c_tree.specs.declared.token.Word.{Word}
 use Rattle.c_tree.specs.declared.token.Piece.{Piece}
 use Rattle.c_tree.specs.Scan.{is_digit, is_word, run, number, unsuffixed, numbered, named, keyword, long_mark, next_byte}

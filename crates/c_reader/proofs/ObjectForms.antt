@@ -1,5 +1,5 @@
 -- What is read is spelled, and what is spelled is read: the objects of a file.
-use Rattle.std.proofs.Common.{◌≡◌, ℕ, ◌+◌, ◌<◌, ◌≤◌, List, [], ◌∷◌, length, Option, Some, None, refl, sym, ap, ◌∙◌, subst, arith, true, false, Bool}
+use Rattle.std.proofs.Common.{◌≡◌, ℕ, ◌<◌, ◌≤◌, List, [], ◌∷◌, length, Option, Some, None, refl, sym, ap, ◌∙◌, subst, arith, true}
 use Rattle.c_tree.specs.declared.token.Token.{Token}
 use Rattle.c_tree.specs.declared.token.Kind.{Kind}
 use Rattle.c_tree.specs.declared.token.Kind.TheVariants as kind
@@ -17,7 +17,7 @@ use Rattle.c_tree.specs.Listed.{Listed}
 use Rattle.c_tree.specs.Listed as list
 use Rattle.c_tree.specs.Statements.{is_pointer}
 use Rattle.c_tree.specs.Declarations.{LengthForm, Num, Named, length_token, length_tree, BehindForm, Nothing, Starts, Array, minus_tokens, behind_tokens, behind_tree, DeclForm, Plain, Pointer, decl_tokens, decl_tree}
-use Rattle.c_reader.specs.Reading.{Got, got, Read, ◌>>=◌, after, name}
+use Rattle.c_reader.specs.Reading.{Got, got, ◌>>=◌, after, name}
 use Rattle.c_reader.specs.Listing.{listing, push}
 use Rattle.c_reader.specs.ReadingItems.{extent_of, extent, started, started_of, array_of, behind_of, behind, object_decl, decl_of, decl, objects}
 use Rattle.c_reader.proofs.TokenKinds.{after_is, spot_of}

@@ -2,7 +2,6 @@
 use Rattle.std.proofs.Common.{◌≡◌, ℕ, suc, ◌+◌, ◌<◌, ◌≤◌, List, [], ◌∷◌, ◌++◌, length, drop, get_or, refl, sym, ap, ◌∙◌, arith, drop-cons}
 use Rattle.std.proofs.lemmas.List.{drop_all}
 use Rattle.c_tree.specs.declared.token.Kind.TheVariants as kind
-use Rattle.c_tree.specs.declared.token.Piece.{Piece}
 use Rattle.c_tree.specs.declared.token.Piece.TheVariants as piece
 use Rattle.c_tree.specs.declared.token.Within.{Within}
 use Rattle.c_tree.specs.declared.token.Within.TheVariants as within

@@ -1,9 +1,8 @@
 -- The scan, piece after piece.
-use Rattle.std.proofs.Common.{◌≡◌, ℕ, zero, suc, ◌+◌, ◌-◌, ◌<◌, ◌≤◌, List, [], ◌∷◌, ◌++◌, length, drop, Ok, Err, refl, sym, ap, ◌∙◌, arith, append_assoc, append-nil, length-drop, subst, true, false, Bool}
+use Rattle.std.proofs.Common.{◌≡◌, ℕ, zero, suc, ◌+◌, ◌<◌, ◌≤◌, List, [], ◌∷◌, ◌++◌, length, drop, Ok, Err, refl, sym, ap, ◌∙◌, arith, append_assoc, append-nil, length-drop, subst, true, false, Bool}
 use Rattle.std.specs.Prelude.{if◌then◌else◌}
 use Rattle.c_tree.specs.declared.token.Token.{Token}
 use Rattle.c_tree.specs.declared.token.Kind.{Kind}
-use Rattle.c_tree.specs.declared.token.Piece.{Piece}
 use Rattle.c_tree.specs.declared.token.Piece.TheVariants as p
 use Rattle.c_tree.specs.declared.token.Directive.{Directive}
 use Rattle.c_tree.specs.declared.token.Directive.TheVariants as d
@@ -14,7 +13,7 @@ use Rattle.c_reader.specs.declared.fault.ReadFault.{ReadFault}
 use Rattle.c_reader.specs.declared.fault.ReadFault.TheVariants as fault
 use Rattle.c_reader.specs.declared.here.Here.{Here}
 use Rattle.c_reader.specs.declared.scan.Scanned.{Scanned}
-use Rattle.c_reader.specs.Scanning.{here, found, with_rest, IsWithin, Moved, Stops, FailsScan, GivesScan}
+use Rattle.c_reader.specs.Scanning.{here, found, with_rest, IsWithin, Moved, Stops, FailsScan}
 
 one_token : (s : Scanned) (t : Token) (h : Here) (r : Scan) → with_rest s (with_token t r) ≡ with_rest (record { tokens = s.tokens ++ t ∷ []; constants = s.constants; here = h }) r
 one_token s t h (Ok r) = ap (λ ts. Ok (record { tokens = ts; constants = s.constants ++ r.constants })) (sym (append_assoc s.tokens (t ∷ []) r.tokens))

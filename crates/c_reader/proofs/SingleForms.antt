@@ -1,5 +1,5 @@
 -- What is read is spelled, and what is spelled is read: single statements.
-use Rattle.std.proofs.Common.{◌≡◌, ℕ, ◌+◌, ◌<◌, ◌≤◌, List, [], ◌∷◌, length, Option, Some, None, refl, sym, ap, ◌∙◌, subst, arith, true, false, Bool, ◌⊎◌, inl, inr}
+use Rattle.std.proofs.Common.{◌≡◌, ℕ, ◌≤◌, List, [], ◌∷◌, Option, Some, None, refl, sym, ap, ◌∙◌, subst, arith, true, false, Bool, ◌⊎◌, inl, inr}
 use Rattle.c_tree.specs.declared.token.Token.{Token}
 use Rattle.c_tree.specs.declared.token.Kind.{Kind}
 use Rattle.c_tree.specs.declared.token.Kind.TheVariants as kind
@@ -9,7 +9,6 @@ use Rattle.c_tree.specs.declared.tree.Name.{Name}
 use Rattle.c_tree.specs.declared.tree.Expr.{Expr}
 use Rattle.c_tree.specs.declared.tree.Place.{Place}
 use Rattle.c_tree.specs.declared.tree.Place.TheVariants as place'
-use Rattle.c_tree.specs.declared.tree.Assign.{Assign}
 use Rattle.c_tree.specs.declared.tree.PrintPiece.{PrintPiece}
 use Rattle.c_tree.specs.declared.tree.Stmt.{Stmt}
 use Rattle.c_tree.specs.declared.tree.Stmt.TheVariants as stmt'
@@ -20,18 +19,17 @@ use Rattle.c_tree.specs.Listed.{Listed}
 use Rattle.c_tree.specs.Listed as list
 use Rattle.c_tree.specs.Calls.{Values, values_trees, values_depth, CallForm, Calls, Input, Main, call_tokens, call_stmt, call_depth, IsWellCall, GivenForm, Value, Answer, given_tokens}
 use Rattle.c_tree.specs.Calls as spelt
-use Rattle.c_tree.specs.Statements.{PlaceForm, Named, Index, At, place_tokens, place_tree, SetForm, set_tokens, set_tree, IsWellSet, set_depth, PrintForm, more_tokens, more_values, SingleForm, Empty, Set, SetAnswer, Call, Put, Print, Return, Break, Continue, Checkpoint, Exclude, single_tokens, single_tree, IsWellSingle, single_depth, first_line}
-use Rattle.c_reader.specs.declared.calls.Called.{Called}
+use Rattle.c_tree.specs.Statements.{PlaceForm, Named, Index, At, place_tokens, place_tree, SetForm, set_tokens, set_tree, IsWellSet, set_depth, more_tokens, more_values, SingleForm, Empty, Set, SetAnswer, Call, Put, Print, Return, Break, Continue, Checkpoint, Exclude, single_tokens, single_tree, IsWellSingle, single_depth, first_line}
 use Rattle.c_reader.specs.declared.singles.Start.{Start}
 use Rattle.c_reader.specs.declared.singles.Start.TheVariants as start'
-use Rattle.c_reader.specs.Reading.{Got, got, Read, ◌>>=◌, word_of, front, after, tail, value}
+use Rattle.c_reader.specs.Reading.{Got, got, Read, ◌>>=◌, word_of, after, tail}
 use Rattle.c_reader.specs.ReadingCalls.{values_below, call, is_call, stmt_by, given}
 use Rattle.c_reader.specs.ReadingStatements.{place, assign_of, set_value, condition, format_of, format, printed, print, given_stmt, assigned_value, assigned, simple_of, simple, start_of, start_at, start, only_in_loop, single, ended}
 use Rattle.c_reader.proofs.TokenKinds.{after_is, spot_of}
-use Rattle.c_reader.proofs.Complete.{Ends, value_read}
-use Rattle.c_reader.proofs.Sound.{bind_some, value_sound}
-use Rattle.c_reader.proofs.CallForms.{ends_rparen, ends_semi, values_below_read, values_below_sound, called, call_read, call_is_call, call_sound, stmt_is, given_read, given_sound}
-use Rattle.c_reader.proofs.Assigning.{place_of_set, value_of_set, place_no_call, condition_read, SpeltPlace, place_sound, SpeltSet, set_is, condition_sound}
+use Rattle.c_reader.proofs.Complete.{Ends}
+use Rattle.c_reader.proofs.Sound.{bind_some}
+use Rattle.c_reader.proofs.CallForms.{ends_rparen, ends_semi, values_below_read, values_below_sound, call_read, call_is_call, call_sound, stmt_is, given_read, given_sound}
+use Rattle.c_reader.proofs.Assigning.{place_of_set, value_of_set, place_no_call, condition_read, SpeltPlace, place_sound, set_is, condition_sound}
 
 -- ---- what is spelled is read
 

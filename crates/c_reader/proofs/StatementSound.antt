@@ -3,7 +3,6 @@ use Rattle.std.proofs.Common.{◌≡◌, ℕ, zero, suc, ◌+◌, ◌<◌, ◌�
 use Rattle.std.specs.Prelude.{max}
 use Rattle.c_tree.specs.declared.token.Token.{Token}
 use Rattle.c_tree.specs.declared.token.Word.TheVariants as word
-use Rattle.c_tree.specs.declared.tree.Expr.{Expr}
 use Rattle.c_tree.specs.declared.tree.Arm.{Arm}
 use Rattle.c_tree.specs.declared.tree.Stmt.{Stmt}
 use Rattle.c_tree.specs.declared.tree.Stmt.TheVariants as stmt'
@@ -24,7 +23,7 @@ use Rattle.c_reader.proofs.Assigning.{condition_sound, SpeltHead, head_sound}
 use Rattle.c_reader.proofs.LocalForms.{declaration_below_sound}
 use Rattle.c_reader.proofs.SingleForms.{Begun, begun, single_line, ended_sound}
 use Rattle.c_reader.proofs.StatementsGrow.{condition_grows, declares_grow, stmt_grows}
-use Rattle.c_reader.proofs.StatementReads.{Follows, chain_spot, chain_inner, chain_is, within_is}
+use Rattle.c_reader.proofs.StatementReads.{Follows, chain_inner, chain_is, within_is}
 
 -- a spelling of a statement that was read within the depth
 pub record SpeltStmt (d : ℕ) (b : Bool) (ts : List Token) (x : Got Stmt) : Type 0 where

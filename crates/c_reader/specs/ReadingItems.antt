@@ -15,7 +15,7 @@ use Rattle.c_tree.specs.declared.tree.Stmt.{Stmt}
 use Rattle.c_tree.specs.declared.tree.Item.{Item}
 use Rattle.c_tree.specs.declared.tree.Item.TheVariants as item'
 use Rattle.c_tree.specs.Statements.{first_line}
-use Rattle.c_reader.specs.Reading.{Got, got, Read, Reader, ◌>>=◌, after, name, is_name}
+use Rattle.c_reader.specs.Reading.{got, Read, Reader, ◌>>=◌, after, name, is_name}
 use Rattle.c_reader.specs.Listing.{listed, listing}
 use Rattle.c_reader.specs.ReadingCalls.{is_there}
 use Rattle.c_reader.specs.ReadingStatements.{block, stmt_within}

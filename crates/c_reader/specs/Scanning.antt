@@ -1,6 +1,5 @@
 -- What the scan of the code answers, beside the scan of the definitions.
-use Rattle.std.specs.Prelude.{◌≡◌, Result, Ok, Err, List, ◌++◌, length, Option, Some, None, ℕ, Bool, ◌&&◌, ◌+◌, ◌*◌, ◌-◌, ◌<◌, ◌≤◌, nat_le, if◌then◌else◌}
-use Rattle.c_tree.specs.declared.token.Token.{Token}
+use Rattle.std.specs.Prelude.{◌≡◌, Result, Ok, Err, List, ◌++◌, length, Option, Some, None, ℕ, ◌&&◌, ◌+◌, ◌*◌, ◌-◌, ◌<◌, ◌≤◌, nat_le, if◌then◌else◌}
 use Rattle.c_tree.specs.declared.token.Piece.{Piece}
 use Rattle.c_tree.specs.declared.token.Piece.TheVariants as piece
 use Rattle.c_tree.specs.Scan.{Scan, Scanned, Spoiled, BadByte, BadNumber, UnendedComment, is_digit, are_digits, decimal, greatest}

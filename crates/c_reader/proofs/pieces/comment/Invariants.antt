@@ -1,4 +1,4 @@
-use Rattle.std.proofs.Common.{◌≤◌, ◌-◌, length}
+use Rattle.std.proofs.Common.{◌-◌, length}
 use Rattle.c_reader.proofs.Comments.{InComment}
 use Rattle.c_reader.proofs.pieces.comment.Given as goal
 
