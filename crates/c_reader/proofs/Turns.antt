@@ -2,13 +2,12 @@
 use Rattle.std.proofs.Common.{◌≡◌, ◌≢◌, ℕ, zero, suc, ◌+◌, ◌-◌, ◌<◌, ◌≤◌, List, Option, Some, None, refl, ap, sym, ◌∙◌, arith}
 use Rattle.c_tree.specs.declared.token.Token.{Token}
 use Rattle.c_tree.specs.declared.tree.Binary.{Binary}
-use Rattle.c_tree.specs.declared.tree.Expr.{Expr}
 use Rattle.c_tree.specs.Expressions.{binds}
-use Rattle.c_reader.specs.Reading.{Got, Read, Inner, ◌>>=◌, first, operator, tail, joined, turn, more, below, expr}
+use Rattle.c_reader.specs.Reading.{Deep, Inner, ◌>>=◌, first, operator, tail, joined, turn, more, below, expr}
 use Rattle.c_reader.proofs.TokenKinds.{lt_true, lt_false}
 
 -- to go on from here gives what the whole gives, in turns enough
-pub record Going (d least : ℕ) (ts : List Token) (x : Got Expr) : Type 0 where
+pub record Going (d least : ℕ) (ts : List Token) (x : Deep) : Type 0 where
   pub turns : ℕ
   pub enough : d ≤ turns + x.depth
   pub same : more (below d) d turns least x ≡ expr d least ts
@@ -22,7 +21,7 @@ unfolding below expr
 below_some zero least ts h = absurd (h refl)
 below_some (suc d) least ts h = let e : suc d - 1 ≡ d = omega arith in rw e refl
 
-pub starts : (d least : ℕ) (ts : List Token) (x : Got Expr) → first (below d) ts ≡ Some x → Going d least ts x
+pub starts : (d least : ℕ) (ts : List Token) (x : Deep) → first (below d) ts ≡ Some x → Going d least ts x
 unfolding expr
 starts d least ts x h = record { turns = d; enough = omega arith; same = sym (ap (λ r. r >>= more (below d) d d least) h) }
 
@@ -31,11 +30,11 @@ unfolding expr
 starts_not d least ts h = ap (λ r. r >>= more (below d) d d least) h
 
 -- with a turn left or with none, the loop does this
-turned : (inner : Inner) (d n least : ℕ) (x : Got Expr) (o : Option Binary) (r : Read Expr) → operator x.rest ≡ o → ((go : Got Expr → Read Expr) → turn inner d least go x o ≡ r) → more inner d n least x ≡ r
+turned : (inner : Inner) (d n least : ℕ) (x : Deep) (o : Option Binary) (r : Option Deep) → operator x.rest ≡ o → ((go : Deep → Option Deep) → turn inner d least go x o ≡ r) → more inner d n least x ≡ r
 turned inner d zero least x o r e h = ap (turn inner d least (λ _. None) x) e ∙ h (λ _. None)
 turned inner d (suc n) least x o r e h = ap (turn inner d least (more inner d n least) x) e ∙ h (more inner d n least)
 
-goes : (d least : ℕ) (ts : List Token) (x : Got Expr) (op : Binary) (y : Got Expr) (n : ℕ) → d ≤ n + x.depth → more (below d) d n least x ≡ expr d least ts → operator x.rest ≡ Some op → least ≤ binds op → x.depth < d → below d (binds op + 1) (tail x.rest) ≡ Some y → Going d least ts (joined op x y)
+goes : (d least : ℕ) (ts : List Token) (x : Deep) (op : Binary) (y : Deep) (n : ℕ) → d ≤ n + x.depth → more (below d) d n least x ≡ expr d least ts → operator x.rest ≡ Some op → least ≤ binds op → x.depth < d → below d (binds op + 1) (tail x.rest) ≡ Some y → Going d least ts (joined op x y)
 goes d least ts x op y zero en same o l h b = absurd (omega arith)
 goes d least ts x op y (suc n) en same o l h b =
     record {
@@ -44,7 +43,7 @@ goes d least ts x op y (suc n) en same o l h b =
       same = sym (ap (turn (below d) d least (more (below d) d n least) x) o ∙ rw (lt_false (binds op) least l, lt_true x.depth d h, b) refl) ∙ same;
     }
 
-module _ (d least : ℕ) (ts : List Token) (x : Got Expr) (g : Going d least ts x) where
+module _ (d least : ℕ) (ts : List Token) (x : Deep) (g : Going d least ts x) where
   pub no_operator : operator x.rest ≡ None → expr d least ts ≡ Some x
   no_operator o = sym g.same ∙ turned (below d) d g.turns least x None (Some x) o (λ go. refl)
 
@@ -57,5 +56,5 @@ module _ (d least : ℕ) (ts : List Token) (x : Got Expr) (g : Going d least ts 
   pub no_right : (op : Binary) → operator x.rest ≡ Some op → least ≤ binds op → x.depth < d → below d (binds op + 1) (tail x.rest) ≡ None → expr d least ts ≡ None
   no_right op o l h b = sym g.same ∙ turned (below d) d g.turns least x (Some op) None o (λ go. rw (lt_false (binds op) least l, lt_true x.depth d h, b) refl)
 
-  pub goes_on : (op : Binary) (y : Got Expr) → operator x.rest ≡ Some op → least ≤ binds op → x.depth < d → below d (binds op + 1) (tail x.rest) ≡ Some y → Going d least ts (joined op x y)
+  pub goes_on : (op : Binary) (y : Deep) → operator x.rest ≡ Some op → least ≤ binds op → x.depth < d → below d (binds op + 1) (tail x.rest) ≡ Some y → Going d least ts (joined op x y)
   goes_on op y o l h b = goes d least ts x op y g.turns g.enough g.same o l h b

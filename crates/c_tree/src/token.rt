@@ -1,21 +1,50 @@
 //! The tokens of a text.
 
-/// What a token is (C99, 6.4).
+use crate::tree::{Constant, Pieces};
+use ckpt_base::Text;
+
+/// A keyword or a mark (C99, 6.4.1 and 6.4.6).
 #[derive(Clone, Copy, Debug, PartialEq, Eq)]
-pub enum Kind {
-    /// A number, at most 9,223,372,036,854,775,807.
-    Num(u64),
+pub enum Word {
     /// `int`
     Int,
-    /// `main`
-    Main,
+    /// `long`
+    Long,
     /// `void`
     Void,
-    /// `putchar`
-    Putchar,
+    /// `main`
+    Main,
     /// `return`
     Return,
-    /// A name or keyword that the grammar does not use.
+    /// `if`
+    If,
+    /// `else`
+    Else,
+    /// `while`
+    While,
+    /// `for`
+    For,
+    /// `do`
+    Do,
+    /// `break`
+    Break,
+    /// `continue`
+    Continue,
+    /// `putchar`
+    Putchar,
+    /// `printf`
+    Printf,
+    /// `getchar`
+    Getchar,
+    /// `CHECKPOINT_HERE`
+    Checkpoint,
+    /// `EXCLUDE_HERE`
+    Exclude,
+    /// `EOF`
+    Eof,
+    /// `NULL`
+    Null,
+    /// A keyword that the grammar does not use.
     Other,
     /// `(`
     LParen,
@@ -25,8 +54,42 @@ pub enum Kind {
     LBrace,
     /// `}`
     RBrace,
+    /// `[`
+    LBracket,
+    /// `]`
+    RBracket,
     /// `;`
     Semi,
+    /// `,`
+    Comma,
+    /// `=`
+    Assign,
+    /// `||`
+    OrOr,
+    /// `&&`
+    AndAnd,
+    /// `|`
+    Bar,
+    /// `^`
+    Caret,
+    /// `&`
+    Ampersand,
+    /// `==`
+    EqualEqual,
+    /// `!=`
+    Unequal,
+    /// `<`
+    Less,
+    /// `<=`
+    AtMost,
+    /// `>`
+    Greater,
+    /// `>=`
+    AtLeast,
+    /// `<<`
+    ShiftLeft,
+    /// `>>`
+    ShiftRight,
     /// `+`
     Plus,
     /// `-`
@@ -37,50 +100,60 @@ pub enum Kind {
     Slash,
     /// `%`
     Percent,
-    /// `<<`
-    ShiftLeft,
-    /// `>>`
-    ShiftRight,
-    /// `<`
-    Less,
-    /// `<=`
-    AtMost,
-    /// `>`
-    Greater,
-    /// `>=`
-    AtLeast,
-    /// `==`
-    EqualEqual,
-    /// `!=`
-    Unequal,
-    /// `&`
-    Ampersand,
-    /// `^`
-    Caret,
-    /// `|`
-    Bar,
-    /// `&&`
-    AndAnd,
-    /// `||`
-    OrOr,
+    /// `!`
+    Bang,
+    /// `~`
+    Tilde,
 }
 
-/// A token and the line it stands in, counted from 1.
-#[derive(Clone, Copy, Debug, PartialEq, Eq)]
+/// What a token is (C99, 6.4).
+#[derive(Drop)]
+pub enum Kind {
+    /// A number or a character constant, from 0 to 9,223,372,036,854,775,807.
+    Num(i64),
+    /// A name.
+    Name(Text),
+    /// A string, taken apart into what it writes.
+    Format(Pieces),
+    /// A keyword or a mark.
+    Word(Word),
+}
+
+/// A token and where it stands.
+#[derive(Drop)]
 pub struct Token {
+    /// What it is.
     pub kind: Kind,
+    /// The line it stands in, counted from 1.
     pub line: u32,
+    /// How many constants the text has made before it.
+    pub constants: u32,
 }
 
 /// What stands at the front of a text.
-#[derive(Clone, Copy, Debug, PartialEq, Eq)]
+#[derive(Drop)]
 pub enum Piece {
     /// So many bytes that separate tokens, and how many lines end in them.
     Blank(usize, u32),
     /// A token of so many bytes.
     Is(Kind, usize),
+    /// `#`
+    Hash,
     /// The byte after so many begins or continues no token.
     BadByte(usize),
     /// A run that begins with a digit and is no number.
     BadNumber,
+    /// A comment that does not end.
+    Unended,
+}
+
+/// What a line that begins with `#` says.
+#[derive(Drop)]
+pub enum Directive {
+    /// `#include`, which is skipped.
+    Include,
+    /// `#define` of a constant.
+    Define(Constant),
+    /// Nothing.
+    Bad,
 }

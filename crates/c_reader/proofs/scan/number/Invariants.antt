@@ -1,5 +1,0 @@
-use Rattle.c_reader.proofs.Numbers.{Counting}
-use Rattle.c_reader.proofs.scan.number.Given as goal
-
-abbrev pub invariant-loop-b : goal.invariant-loop-b
-invariant-loop-b l = Counting l.bytes l.value l.b-index

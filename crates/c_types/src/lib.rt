@@ -1,0 +1,17 @@
+//! The rules that a program keeps, and its resolved tree.
+#![tactic(auto)]
+
+mod calls;
+mod expressions;
+mod fault;
+mod file;
+mod known;
+mod named_items;
+mod named_statements;
+mod names;
+mod places;
+mod scope;
+mod single;
+mod types;
+
+pub use fault::CheckFault;

@@ -1,0 +1,237 @@
+//! Statements with no statements in them: calls, input, output and returns.
+#![tactic(auto)]
+
+ghost use Rattle.std.specs.Prelude.{◌≡◌, [], ℕ, Bool, Some, true, false, IfOk, IfSome, length, count_by};
+ghost use Rattle.std.specs.List.{list_all};
+ghost use Rattle.c_tree.specs.Kinds.{World, kind, is_number, is_hole, keeps_rules, answers, call_kind, place_kind};
+ghost use Rattle.c_tree.specs.Excludes.{excludes};
+ghost use Rattle.c_types.specs.Places as places;
+ghost use Rattle.c_types.specs.Places.{Gets};
+ghost use Rattle.c_types.specs.Statements as spec;
+ghost use Rattle.c_types.specs.Fitting.{Fits, is_wanted};
+
+use crate::calls::{call, count_of, number_of};
+use crate::fault::CheckFault;
+use crate::file::FileNames;
+use crate::places::{Target, fits, named, number};
+use crate::scope::Scope;
+use crate::types::Frame;
+use c_tree::{Callee, Expr, Exprs, Given, Name, PrintPiece, RExpr, RPlace, RStmt};
+use sqlite_items::Items;
+use std::alloc::Global;
+
+/// Where an answer goes.
+fn answer(
+    file: &FileNames,
+    frame: Frame,
+    scope: &Scope,
+    line: u32,
+    name: &Option<Name>,
+) -> Result<Option<Target>, CheckFault>
+    ensures gets { Gets (spec.answer file.now frame line name.now scope.now) result }
+    ensures kept { (w : World) → Fits w file.now frame scope.now.locals → IfOk result (λ t. IfSome t (λ x. place_kind w x.place ≡ Some x.is_pointer)) }
+{
+    match name {
+        None => Ok(None),
+        Some(name) => {
+            let target = named(file, frame, scope, line, &name.text)?;
+            Ok(Some(target))
+        }
+    }
+}
+
+fn wanted_of(target: &Option<Target>) -> Option<bool>
+    ensures answer { result ≡ spec.wanted_of target.now }
+{
+    match target {
+        None => None,
+        Some(target) => Some(target.is_pointer),
+    }
+}
+
+fn place_of(target: Option<Target>) -> Option<RPlace>
+    ensures answer { result ≡ spec.place_of target }
+{
+    match target {
+        None => None,
+        Some(target) => Some(target.place),
+    }
+}
+
+/// A call of a function, or nothing for `main`.
+pub fn call_with(place: Option<RPlace>, function: Option<u32>, values: Exprs) -> RStmt
+    ensures answer { result ≡ spec.call_with function (λ g. RStmt.Call place g values) }
+    ensures plain { excludes result ≡ [] }
+    ensures kept { (w : World) (in_loop : Bool) → ((g : ℕ) → function ≡ Some g → answers w place (call_kind w g values) ≡ true) → keeps_rules w result in_loop ≡ true }
+{
+    match function {
+        None => RStmt::Empty,
+        Some(function) => RStmt::Call(place, function, values),
+    }
+}
+
+/// A call, whose answer may be assigned to a name.
+pub fn call_stmt(
+    alloc: Global,
+    file: &FileNames,
+    frame: Frame,
+    scope: &Scope,
+    line: u32,
+    name: &Option<Name>,
+    callee: &Callee,
+    es: &[Expr],
+) -> Result<RStmt, CheckFault>
+    ensures gets { Gets (spec.call_stmt file.now frame line name.now callee.now es.now scope.now) result }
+    ensures plain { IfOk result (λ r. excludes r ≡ []) }
+    ensures kept { (w : World) (in_loop : Bool) → Fits w file.now frame scope.now.locals → IfOk result (λ r. keeps_rules w r in_loop ≡ true) }
+{
+    count_of(file, line, callee, es)?;
+    let target = answer(file, frame, scope, line, name)?;
+    let wanted = wanted_of(&target);
+    let values = call(alloc, file, frame, scope, line, callee, es, wanted)?;
+    Ok(call_with(place_of(target), number_of(file, callee), values))
+}
+
+/// `getchar()`, whose answer may be assigned to a number.
+pub fn input_stmt(
+    file: &FileNames,
+    frame: Frame,
+    scope: &Scope,
+    line: u32,
+    name: &Option<Name>,
+) -> Result<RStmt, CheckFault>
+    ensures gets { Gets (spec.input_stmt file.now frame line name.now scope.now) result }
+    ensures plain { IfOk result (λ r. excludes r ≡ []) }
+    ensures kept { (w : World) (in_loop : Bool) → Fits w file.now frame scope.now.locals → IfOk result (λ r. keeps_rules w r in_loop ≡ true) }
+{
+    match answer(file, frame, scope, line, name)? {
+        None => Ok(RStmt::Input(None)),
+        Some(target) => {
+            if target.is_pointer {
+                Err(CheckFault::WrongType(line))
+            } else {
+                Ok(RStmt::Input(Some(target.place)))
+            }
+        }
+    }
+}
+
+/// Numbers in order.
+fn numbers(
+    alloc: Global,
+    file: &FileNames,
+    frame: Frame,
+    scope: &Scope,
+    line: u32,
+    es: &[Expr],
+) -> Result<Items<RExpr>, CheckFault>
+    ensures gets { Gets (spec.numbers file.now frame line es.now scope.now) result }
+    ensures count { IfOk result (λ xs. length xs ≡ length es.now) }
+    ensures kept { (w : World) → Fits w file.now frame scope.now.locals → IfOk result (λ xs. list_all (is_number w) xs ≡ true) }
+{
+    let mut done = Items::new(alloc);
+    for e in es {
+        let value = number(alloc, file, frame, scope, line, e)?;
+        done.push(value)?;
+    }
+    Ok(done)
+}
+
+fn is_hole(piece: PrintPiece) -> bool
+    ensures answer { result ≡ is_hole piece }
+{
+    match piece {
+        PrintPiece::Byte(_) => false,
+        PrintPiece::Number => true,
+    }
+}
+
+/// How many `%ld` there are.
+fn hole_count(pieces: &[PrintPiece]) -> usize
+    ensures answer { result ≡ count_by is_hole pieces.now }
+{
+    pieces.iter().filter(|piece| is_hole(**piece)).count()
+}
+
+/// `printf`: there is a number for each `%ld`.
+pub fn print_stmt(
+    alloc: Global,
+    file: &FileNames,
+    frame: Frame,
+    scope: &Scope,
+    line: u32,
+    pieces: &[PrintPiece],
+    es: &[Expr],
+) -> Result<RStmt, CheckFault>
+    ensures gets { Gets (spec.print_stmt file.now frame line pieces.now es.now scope.now) result }
+    ensures plain { IfOk result (λ r. excludes r ≡ []) }
+    ensures kept { (w : World) (in_loop : Bool) → Fits w file.now frame scope.now.locals → IfOk result (λ r. keeps_rules w r in_loop ≡ true) }
+{
+    if es.len() != hole_count(pieces) {
+        return Err(CheckFault::WrongCount(line));
+    }
+    let values = numbers(alloc, file, frame, scope, line, es)?;
+    let pieces = Items::from_slice(alloc, pieces)?;
+    Ok(RStmt::Print(pieces, values))
+}
+
+/// A return of a call, or nothing for `main`.
+fn return_with(function: Option<u32>, values: Exprs) -> RStmt
+    ensures answer { result ≡ spec.call_with function (λ g. RStmt.ReturnCall g values) }
+    ensures plain { excludes result ≡ [] }
+    ensures kept { (w : World) (in_loop : Bool) → ((g : ℕ) → function ≡ Some g → is_wanted (Some w.gives_pointer) (call_kind w g values) ≡ true) → keeps_rules w result in_loop ≡ true }
+{
+    match function {
+        None => RStmt::Empty,
+        Some(function) => RStmt::ReturnCall(function, values),
+    }
+}
+
+fn return_call(
+    alloc: Global,
+    file: &FileNames,
+    frame: Frame,
+    scope: &Scope,
+    line: u32,
+    callee: &Callee,
+    es: &[Expr],
+) -> Result<RStmt, CheckFault>
+    ensures gets { Gets (spec.return_call file.now frame line callee.now es.now scope.now) result }
+    ensures plain { IfOk result (λ r. excludes r ≡ []) }
+    ensures kept { (w : World) (in_loop : Bool) → Fits w file.now frame scope.now.locals → IfOk result (λ r. keeps_rules w r in_loop ≡ true) }
+{
+    let wanted = Some(frame.gives_pointer);
+    let values = call(alloc, file, frame, scope, line, callee, es, wanted)?;
+    Ok(return_with(number_of(file, callee), values))
+}
+
+/// `return`: what is given is of the function's type.
+pub fn return_stmt(
+    alloc: Global,
+    file: &FileNames,
+    frame: Frame,
+    scope: &Scope,
+    line: u32,
+    given: &Given,
+) -> Result<RStmt, CheckFault>
+    ensures gets { Gets (spec.return_stmt file.now frame line given.now scope.now) result }
+    ensures plain { IfOk result (λ r. excludes r ≡ []) }
+    ensures kept { (w : World) (in_loop : Bool) → Fits w file.now frame scope.now.locals → IfOk result (λ r. keeps_rules w r in_loop ≡ true) }
+{
+    match given {
+        Given::Value(e) => {
+            let value = fits(alloc, file, frame, scope, line, frame.gives_pointer, e)?;
+            Ok(RStmt::Return(value))
+        }
+        Given::Call(callee, es) => {
+            return_call(alloc, file, frame, scope, line, callee, es.as_slice())
+        }
+        Given::Input => {
+            if frame.gives_pointer {
+                Err(CheckFault::WrongType(line))
+            } else {
+                Ok(RStmt::ReturnInput)
+            }
+        }
+    }
+}

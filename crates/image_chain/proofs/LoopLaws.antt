@@ -1,0 +1,115 @@
+-- An append goes on from step to step.
+use Rattle.std.proofs.Common.{◌≡◌, ◌≢◌, ◌⊎◌, Bool, true, false, cond, nat_lt, inl, inr, refl, sym, ◌∙◌, ap, subst, ℕ, zero, suc, ◌+◌, ◌-◌, ◌*◌, ◌<◌, ◌≤◌, IsTrue, List, [], ◌∷◌, ◌++◌, length, take, Result, Ok, arith}
+use Rattle.std.proofs.lemmas.Bool.{cases_lt}
+use Rattle.std.proofs.lemmas.Bool.Decides.{nat_tests}
+use Rattle.ckpt_base.specs.declared.errors.Failed.{Failed}
+use Rattle.disk_model.specs.declared.disk_file.DiskFile.{DiskFile}
+use Rattle.disk_model.specs.Store.{Store, file_of}
+use Rattle.disk_model.specs.View.{View, IsDisk}
+use Rattle.disk_model.specs.Moments.{Among, LeavesOnly}
+use Rattle.disk_model.proofs.Calls.{still, joined}
+use Rattle.image_format.specs.Image.{Image}
+use Rattle.image_chain.specs.declared.chain.Current.{Current}
+use Rattle.image_chain.specs.declared.chain.Step.{Step}
+use Rattle.image_chain.specs.declared.chain.Step.TheVariants.{Piece, SyncRecord, OpenGate, SyncGate, Done}
+use Rattle.image_chain.specs.Append.{front, Keeps, IsAtRest, IsDue, Stands, Spells, IsInside, IsInsideOrDone, SameCurrent, next_of, due_after, left_to_do}
+use Rattle.image_chain.specs.Lists.{Lists, IsKept, IsAppended, IsLeftIn, Makes, SoFar}
+use Rattle.image_chain.proofs.ListLaws.{holds_of, lists_of}
+use Rattle.image_chain.proofs.StepLaws.{front_and_gate}
+
+lt-yes : (a b : ℕ) → a < b → nat_lt a b ≡ true
+lt-yes a b less = grind (arith, nat_tests)
+
+lt-no : (a b : ℕ) → b ≤ a → nat_lt a b ≡ false
+lt-no a b less = grind (arith, nat_tests)
+
+pub stands_due : (chain : Current) (v : View) (rs : List Image) (r : Image) (image : List ℕ) (at : Step) (n : ℕ) → IsInside at n → Stands chain v rs r image at → IsDue chain v rs image at
+stands_due chain v rs r image (Piece i) n inside due = due
+stands_due chain v rs r image SyncRecord n inside due = due
+stands_due chain v rs r image OpenGate n inside due = due
+stands_due chain v rs r image SyncGate n inside due = due
+stands_due chain v rs r image Done n inside due = absurd inside
+
+-- each outcome of one step, after what the steps before left
+after_appended : (at : Step) (chain : Current) (rs : List Image) (r : Image) (first d s : Store) → IsAppended chain rs r first d → IsLeftIn at chain rs r d s → IsAppended chain rs r first s
+after_appended (Piece i) chain rs r first d s was is = (inl is.0, is.1 ∙ was.1)
+after_appended SyncRecord chain rs r first d s was is = (inl is.0, is.1 ∙ was.1)
+after_appended OpenGate chain rs r first d s was is = (is.0, is.1 ∙ was.1)
+after_appended SyncGate chain rs r first d s was is = (is.0, is.1 ∙ was.1)
+after_appended Done chain rs r first d s was is = (inl is.0, is.1 ∙ was.1)
+
+pub rest_lists : (chain : Current) (v : View) (rs : List Image) (behind : List ℕ) → IsAtRest chain v rs behind → (c : Store) → v.may_leave c → Lists chain rs c
+rest_lists chain v rs behind rest c left = lists_of chain rs rest.gate behind c (holds_of chain rs rest.keeps) rest.alone.image_file rest.closed (rest.left c left) (rest.alone.aside c left)
+
+-- at rest the first piece is due
+rest_due : (chain : Current) (v : View) (rs : List Image) (image behind : List ℕ) → IsAtRest chain v rs behind → IsDue chain v rs image (Piece 0)
+rest_due chain v rs image behind rest = record {
+  keeps = rest.keeps;
+  alone = rest.alone;
+  gate = rest.gate;
+  closed = rest.closed;
+  behind = behind;
+  reads = rest.reads;
+  left = λ c left. ap (λ (l : List ℕ). take (length (front chain rs) + 1) l) (rest.left c left) ∙ front_and_gate (front chain rs) behind rest.gate;
+}
+
+pub begun : (chain : Current) (v : View) (rs : List Image) (r : Image) (image behind : List ℕ) → IsTrue v.tells → IsDisk v → IsAtRest chain v rs behind → SoFar chain chain r image (Piece 0) v v rs
+begun chain v rs r image behind tells disk rest = record {
+  due = rest_due chain v rs image behind rest;
+  moments = still v (Among v.may_leave (IsAppended chain rs r)) (λ _. disk) (λ _. tells) (λ _ c left. (c, left, (inl (rest_lists chain v rs behind rest c left), refl)));
+}
+
+pub goes_on : (start chain after : Current) (old mid new : View) (rs : List Image) (r : Image) (image : List ℕ) (at : Step) (result : Result Step Failed) → chain ≡ start → IsTrue old.tells → Spells r image → IsInside at (length image)
+    → SoFar start chain r image at old mid rs → Makes chain after image at result mid new → LeavesOnly old new (Among old.may_leave (IsAppended start rs r))
+goes_on start chain after old mid new rs r image at result same tells spells inside so_far makes =
+    let mid_tells = subst IsTrue (sym so_far.moments.tells) tells in
+    let promise = makes mid_tells rs r spells (stands_due chain mid rs r image at (length image) inside so_far.due) in
+    let moments : LeavesOnly mid new (Among mid.may_leave (IsLeftIn at start rs r)) = subst (λ (c : Current). LeavesOnly mid new (Among mid.may_leave (IsLeftIn at c rs r))) same promise.moments in
+    joined old mid new (Among old.may_leave (IsAppended start rs r)) (Among mid.may_leave (IsLeftIn at start rs r)) (λ _. tells) so_far.moments moments
+    (λ t s from. let was = so_far.moments.now t from.0 from.1 in (was.0, was.1, after_appended at start rs r was.0 from.0 s was.2 from.2))
+
+pub due_next : (chain after : Current) (mid new : View) (rs : List Image) (r : Image) (image : List ℕ) (at next : Step) → IsTrue mid.tells → Spells r image → IsInside at (length image) → Stands chain mid rs r image at → Makes chain after image at (Ok next) mid new → Stands after new rs r image next
+due_next chain after mid new rs r image at next tells spells inside due makes = (makes tells rs r spells (stands_due chain mid rs r image at (length image) inside due)).due
+
+pub inside_next : (at : Step) (n : ℕ) → IsInside at n → IsInsideOrDone (next_of at n) n
+inside_next (Piece i) n inside = elim (cases_lt (4096 * (i + 1)) n) [
+  | inl more ↦ subst (λ (b : Bool). IsInsideOrDone (cond b (Piece (i + 1)) SyncRecord) n) (sym (lt-yes (4096 * (i + 1)) n more)) more
+  | inr last ↦ subst (λ (b : Bool). IsInsideOrDone (cond b (Piece (i + 1)) SyncRecord) n) (sym (lt-no (4096 * (i + 1)) n last)) tt
+]
+inside_next SyncRecord n inside = tt
+inside_next OpenGate n inside = tt
+inside_next SyncGate n inside = tt
+inside_next Done n inside = tt
+
+pub smaller : (at : Step) (n : ℕ) → IsInside at n → left_to_do (next_of at n) n < left_to_do at n
+smaller (Piece i) n inside = elim (cases_lt (4096 * (i + 1)) n) [
+  | inl more ↦ subst (λ (b : Bool). left_to_do (cond b (Piece (i + 1)) SyncRecord) n < 4 + (n - 4096 * i)) (sym (lt-yes (4096 * (i + 1)) n more)) (omega arith)
+  | inr last ↦ subst (λ (b : Bool). left_to_do (cond b (Piece (i + 1)) SyncRecord) n < 4 + (n - 4096 * i)) (sym (lt-no (4096 * (i + 1)) n last)) (omega arith)
+]
+smaller SyncRecord n inside = omega arith
+smaller OpenGate n inside = omega arith
+smaller SyncGate n inside = omega arith
+smaller Done n inside = absurd inside
+
+-- a step that is due and is not the last
+pub inside_due : (at : Step) (n : ℕ) → at ≢ Done → IsInsideOrDone at n → IsInside at n
+inside_due (Piece i) n not_done inside = inside
+inside_due SyncRecord n not_done inside = tt
+inside_due OpenGate n not_done inside = tt
+inside_due SyncGate n not_done inside = tt
+inside_due Done n not_done inside = not_done refl
+
+pub due_is : (at : Step) → at ≢ Done → due_after at ≡ at
+due_is (Piece i) not_done = refl
+due_is SyncRecord not_done = refl
+due_is OpenGate not_done = refl
+due_is SyncGate not_done = refl
+due_is Done not_done = absurd (not_done refl)
+
+-- the current file stays the same up to the last step
+pub same_next : (at : Step) (n : ℕ) (start chain after : Current) → IsInside at n → chain ≡ start → SameCurrent at chain after → next_of at n ≢ Done → after ≡ start
+same_next (Piece i) n start chain after inside was is more = is ∙ was
+same_next SyncRecord n start chain after inside was is more = is ∙ was
+same_next OpenGate n start chain after inside was is more = is ∙ was
+same_next SyncGate n start chain after inside was is more = absurd (more refl)
+same_next Done n start chain after inside was is more = is ∙ was

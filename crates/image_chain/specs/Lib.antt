@@ -1,0 +1,8 @@
+-- the chain of a store: its files, their records, and every kind of damage
+pub mod Records
+-- what records give each cell
+pub mod Memory
+-- what an append leaves in the file, call by call
+pub mod Append
+-- what a crash leaves of the chain at each moment
+pub mod Lists

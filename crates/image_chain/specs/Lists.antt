@@ -1,0 +1,67 @@
+-- What a crash leaves of the chain at each moment, by lists of records.
+use Rattle.std.specs.Prelude.{◌≡◌, ◌⊎◌, ◌↔◌, ℕ, IsTrue, true, List, [], ◌∷◌, ◌++◌, Option, Some, None, Result, Ok, IfOk}
+use Rattle.ckpt_base.specs.declared.errors.Failed.{Failed}
+use Rattle.disk_model.specs.declared.disk_file.DiskFile.{DiskFile}
+use Rattle.disk_model.specs.Store.{Store}
+use Rattle.disk_model.specs.View.{View}
+use Rattle.disk_model.specs.Moments.{Among, LeavesOnly}
+use Rattle.image_format.specs.declared.header.Header.{Header}
+use Rattle.image_format.specs.Image.{Image}
+use Rattle.image_chain.specs.declared.chain.Current.{Current}
+use Rattle.image_chain.specs.declared.chain.Chain.{Chain}
+use Rattle.image_chain.specs.declared.chain.Step.{Step}
+use Rattle.image_chain.specs.declared.chain.Step.TheVariants.{Piece, SyncRecord, OpenGate, SyncGate, Done}
+use Rattle.image_chain.specs.Records.{Damage, Found, chain_in}
+use Rattle.image_chain.specs.Append.{header_of, IsAtRest, IsDue, Stands, Spells}
+
+-- what is found where these records stand in this file behind this header: no chain where there is none
+abbrev pub found_of : DiskFile → Header → List Image → Option Found
+found_of f h [] = None
+found_of f h (r ∷ rs) = Some (record { file = f; header = h; records = r ∷ rs })
+
+-- the store has no damage, and its chain has exactly these records
+abbrev pub Lists : Current → List Image → Store → Type 0
+Lists chain rs s = chain_in s ≡ Ok (found_of chain.file (header_of chain) rs)
+
+-- an earlier outcome, but that the chain has these records
+abbrev pub IsKept : Current → List Image → Store → Store → Type 0
+IsKept chain rs old new = Lists chain rs new × (new.output ≡ old.output)
+
+-- an earlier outcome, but that the chain has these records, or these and the new one
+abbrev pub IsAppended : Current → List Image → Image → Store → Store → Type 0
+IsAppended chain rs r old new = (Lists chain rs new ⊎ Lists chain (rs ++ r ∷ []) new) × (new.output ≡ old.output)
+
+-- what a crash may leave in the call that makes this step: the old list, and once the gate is being opened the old one or the new one
+abbrev pub IsLeftIn : Step → Current → List Image → Image → Store → Store → Type 0
+IsLeftIn (Piece i) chain rs r = IsKept chain rs
+IsLeftIn SyncRecord chain rs r = IsKept chain rs
+IsLeftIn OpenGate chain rs r = IsAppended chain rs r
+IsLeftIn SyncGate chain rs r = IsAppended chain rs r
+IsLeftIn Done chain rs r = IsKept chain rs
+
+-- what reads give after the call that makes this step: the old list, and from the opening of the gate on the new one
+abbrev pub ReadsAfter : Step → Current → List Image → Image → Store → Type 0
+ReadsAfter (Piece i) chain rs r = Lists chain rs
+ReadsAfter SyncRecord chain rs r = Lists chain rs
+ReadsAfter OpenGate chain rs r = Lists chain (rs ++ r ∷ [])
+ReadsAfter SyncGate chain rs r = Lists chain (rs ++ r ∷ [])
+ReadsAfter Done chain rs r = Lists chain rs
+
+-- What the call that makes a step promises, behind these records.
+pub record Promise (before after : Current) (r : Image) (image : List ℕ) (at : Step) (result : Result Step Failed) (old new : View) (rs : List Image) : Type 0 where
+  pub due : IfOk result (Stands after new rs r image)
+  pub reads : IfOk result (λ _. ReadsAfter at before rs r new.seen)
+  pub moments : LeavesOnly old new (Among old.may_leave (IsLeftIn at before rs r))
+
+-- the same, where the disk tells, for each list of records behind which the step is due
+abbrev pub Makes : Current → Current → List ℕ → Step → Result Step Failed → View → View → Type 0
+Makes before after image at result old new = IsTrue old.tells → (rs : List Image) (r : Image) → Spells r image → IsDue before old rs image at → Promise before after r image at result old new rs
+
+-- no record of this chain is under way, and these are its records on this disk
+abbrev pub Rests : Chain → View → List Image → Type 0
+Rests chain v rs = (chain.due ≡ Piece 0) × ((behind : List ℕ) × IsAtRest chain.current v rs behind)
+
+-- an append that began at rest has come to this step
+pub record SoFar (start now : Current) (r : Image) (image : List ℕ) (at : Step) (old new : View) (rs : List Image) : Type 0 where
+  pub due : Stands now new rs r image at
+  pub moments : LeavesOnly old new (Among old.may_leave (IsAppended start rs r))

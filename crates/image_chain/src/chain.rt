@@ -1,0 +1,44 @@
+ghost use Rattle.std.specs.Prelude.{◌≡◌, ◌≤◌, ◌+◌, ◌*◌};
+
+use disk_model::DiskFile;
+use image_format::Fields;
+
+/// The steps of an append, each of them one disk call.
+#[derive(Clone, Copy, Debug, PartialEq, Eq)]
+pub enum Step {
+    /// The write of this piece, counted from 0.
+    Piece(u32),
+    /// The sync that makes the record lasting.
+    SyncRecord,
+    /// The write that opens the gate before the record.
+    OpenGate,
+    /// The sync that makes the open gate lasting.
+    SyncGate,
+    /// No further call.
+    Done,
+}
+
+/// The chain of a store: where its records stand, and what is kept of them.
+#[derive(Drop)]
+pub struct Chain {
+    pub(crate) current: Current,
+    /// The step that is due.
+    pub(crate) due: Step,
+}
+
+/// What is kept of the current file.
+#[derive(Drop)]
+pub struct Current {
+    pub(crate) file: DiskFile,
+    pub(crate) generation: u32,
+    pub(crate) every: u32,
+    pub(crate) max: u16,
+    /// How many records there are.
+    pub(crate) count: u16,
+    /// The place of the last gate, which is not open.
+    pub(crate) gate: u64,
+    /// The fields of the newest record, and the place at which it begins.
+    pub(crate) newest: Option<Fields>,
+    pub(crate) newest_at: u64,
+    ghost bounds: { (gate ≤ 15 + 3145837 * count) × (count ≤ max) × (max ≤ 64) },
+}

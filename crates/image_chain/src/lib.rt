@@ -1,0 +1,12 @@
+//! The chain of images in a store.
+//!
+//! An image file is a header and records, each behind a gate; only a gate that is open has a record behind it. The layers above
+//! speak of lists of records: `open` answers the records of the current file or the first damage, exactly; at each moment of an
+//! `append` a crash leaves the old list, or the old list and the record, and before the gate is opened the old list alone; once it
+//! is done every crash leaves the new list. A `Kept` is the joined content of a chain, a word or nothing for each cell.
+#![tactic(auto)]
+
+mod append;
+mod chain;
+
+pub use chain::{Chain, Step};
