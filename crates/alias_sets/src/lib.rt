@@ -6,10 +6,13 @@
 #![tactic(auto)]
 
 mod flows;
+mod nodes;
 mod numbering;
 mod points;
-mod nodes;
 mod statements;
 
 pub use flows::PointerVar;
 pub use points::{Points, find_points};
+
+#[cfg(test)]
+mod tests;

@@ -10,7 +10,7 @@ use crate::flows::{Flow, PointerVar};
 use crate::nodes::{edges_of, empty_rows, goals_of, width_of};
 use crate::numbering::{number_of, variables_of};
 use crate::statements::flows_of;
-use c_tree::Checked;
+use c_tree::{Checked, Resolved};
 use cell_sets::BitRow;
 use ckpt_base::NoMemory;
 use indexmap::IndexSet;
@@ -112,12 +112,19 @@ fn rows_of(
     Ok(rows)
 }
 
+/// Finds for each variable of a tree the objects that it may hold.
+pub(crate) fn points_of(alloc: Global, tree: &Resolved) -> Result<Points, NoMemory>
+    ensures answer { IfOk result (λ points. ArePointsOf tree.now points) }
+{
+    let flows = flows_of(alloc, tree)?;
+    let variables = variables_of(alloc, flows.as_slice())?;
+    let rows = rows_of(alloc, &variables, flows.as_slice())?;
+    Ok(Points { variables, rows })
+}
+
 /// Finds for each variable of a program the objects that it may hold.
 pub fn find_points(alloc: Global, program: &Checked) -> Result<Points, NoMemory>
     ensures answer { IfOk result (λ points. ArePointsOf program.now points) }
 {
-    let flows = flows_of(alloc, program.tree())?;
-    let variables = variables_of(alloc, flows.as_slice())?;
-    let rows = rows_of(alloc, &variables, flows.as_slice())?;
-    Ok(Points { variables, rows })
+    points_of(alloc, program.tree())
 }
