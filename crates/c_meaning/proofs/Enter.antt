@@ -27,7 +27,7 @@ use Rattle.c_meaning.specs.declared.work.Item.{Item}
 use Rattle.c_meaning.specs.declared.work.Item.TheVariants as item
 use Rattle.c_meaning.specs.Memory.{test_of}
 use Rattle.c_meaning.specs.Working.{todo, calls, before, ways, ways_on, behind, action, end_item, update_of, looping, turn_ways, arm_piece, last_piece, From, Stands, Skipped, size, size_at, total, last_weight, weights}
-use Rattle.c_meaning.proofs.Agree.{piece_steady, calls_steady, unrolls}
+use Rattle.c_tree.proofs.Agree.{piece_steady, calls_steady, unrolls}
 use Rattle.c_meaning.proofs.Going.{moved, added}
 
 -- ---- the equations of a statement

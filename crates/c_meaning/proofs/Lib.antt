@@ -1,5 +1,4 @@
 pub mod Act
-pub mod Agree
 pub mod Calls
 pub mod Did
 pub mod Going

@@ -11,6 +11,8 @@ mod memory;
 mod pointer;
 mod progress;
 mod run;
+#[cfg(test)]
+mod tests;
 mod value;
 mod work;
 

@@ -1,9 +1,10 @@
-ghost use Rattle.std.specs.Prelude.{◌≡◌, IfOk};
+ghost use Rattle.std.specs.Prelude.{◌≡◌, ◌≤◌, IfOk};
+ghost use Rattle.c_tree.specs.Layout.{cell_count};
 ghost use Rattle.c_tree.specs.Meaning.{meaning};
 ghost use Rattle.c_meaning.specs.Plain.{IsPlain};
 
 use crate::evaluator::Evaluator;
-use c_tree::Checked;
+use c_tree::{Checked, Resolved};
 use ckpt_base::{Bytes, Ending, NoMemory};
 use std::alloc::Global;
 
@@ -27,7 +28,20 @@ pub fn plain(
 ) -> Result<PlainRun, NoMemory>
     ensures answer { IfOk result (λ r. IsPlain r.output.list r.ending r.ticks (meaning program.now input.now until)) }
 {
-    let mut evaluator = Evaluator::start(alloc, program.tree(), input)?;
+    run_tree(alloc, program.tree(), input, until)
+}
+
+/// Runs a tree on an input, with at most `until` ticks.
+pub(crate) fn run_tree(
+    alloc: Global,
+    tree: &Resolved,
+    input: &[u8],
+    until: u64,
+) -> Result<PlainRun, NoMemory>
+    requires cells { cell_count tree.now ≤ 262144 }
+    ensures answer { IfOk result (λ r. IsPlain r.output.list r.ending r.ticks (meaning tree.now input.now until)) }
+{
+    let mut evaluator = Evaluator::start(alloc, tree, input)?;
     let ending = evaluator.run(until)?;
     let mut output = Bytes::with_room(alloc, evaluator.output().len())?;
     output.append(evaluator.output());

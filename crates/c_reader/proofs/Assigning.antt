@@ -1,8 +1,7 @@
 -- What is read is spelled, and what is spelled is read: assignments and the head of a `for`.
-use Rattle.std.proofs.Common.{◌≡◌, ℕ, ◌+◌, ◌<◌, ◌≤◌, List, [], ◌∷◌, length, Option, Some, None, refl, sym, ap, ◌∙◌, subst, arith, true, false, Bool}
+use Rattle.std.proofs.Common.{◌≡◌, ℕ, ◌≤◌, List, ◌∷◌, Option, Some, None, refl, sym, ap, ◌∙◌, subst, arith, true, false, Bool}
 use Rattle.c_tree.specs.declared.token.Token.{Token}
 use Rattle.c_tree.specs.declared.token.Word.TheVariants as word
-use Rattle.c_tree.specs.declared.tree.Name.{Name}
 use Rattle.c_tree.specs.declared.tree.Expr.{Expr}
 use Rattle.c_tree.specs.declared.tree.Place.{Place}
 use Rattle.c_tree.specs.declared.tree.Place.TheVariants as place'
@@ -14,14 +13,13 @@ use Rattle.c_tree.specs.Expressions.{Form, the, a_name, name_at}
 use Rattle.c_tree.specs.Expressions as expr'
 use Rattle.c_tree.specs.Statements.{PlaceForm, Named, Index, At, place_tokens, place_tree, IsWellPlace, place_depth, SetForm, set_tokens, set_tree, IsWellSet, set_depth, InitForm, Nothing, Sets, Declares, init_tokens, init_tree, IsWellInit, init_depth, test_tokens, test_tree, IsWellTest, test_depth, update_tokens, update_tree, IsWellUpdate, update_depth, HeadForm, head_tokens, IsWellHead, head_depth}
 use Rattle.c_reader.specs.declared.assignments.Head.{Head}
-use Rattle.c_reader.specs.Reading.{Got, got, Read, Deep, ◌>>=◌, after, tail, front, name, below, index, closed, value}
+use Rattle.c_reader.specs.Reading.{Got, got, Deep, ◌>>=◌, after, tail, front, name, below, index, closed, value}
 use Rattle.c_reader.specs.ReadingCalls.{is_call, is_there}
 use Rattle.c_reader.specs.ReadingStatements.{place_named, place_of, place, assign_of, set_value, set, condition, declared, init_some, init_of, init, test_of, test, update_of, update, head_of, test_part, update_part, head}
 use Rattle.c_reader.proofs.TokenKinds.{after_is}
 use Rattle.c_reader.proofs.Complete.{NoIndex, Ends, value_read, index_read, prefix_read}
 use Rattle.c_reader.proofs.Sound.{bind_some, name_is, value_sound, below_index, below_prefix_sound}
-use Rattle.c_reader.proofs.Takes.{form_grows}
-use Rattle.c_reader.proofs.CallForms.{may_begin, other_front, form_front, not_in_front, ends_rparen, ends_semi}
+use Rattle.c_reader.proofs.CallForms.{may_begin, other_front, not_in_front, ends_rparen, ends_semi}
 
 -- ---- what is spelled is read
 

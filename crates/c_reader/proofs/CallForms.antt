@@ -1,8 +1,6 @@
 -- What is read is spelled, and what is spelled is read: calls and their values.
-use Rattle.std.proofs.Common.{◌≡◌, ℕ, zero, suc, ◌+◌, ◌<◌, ◌≤◌, List, [], ◌∷◌, ◌++◌, length, Option, Some, None, refl, sym, ap, ◌∙◌, subst, arith, true, false, Bool}
+use Rattle.std.proofs.Common.{◌≡◌, ℕ, zero, suc, ◌+◌, ◌≤◌, List, [], ◌∷◌, length, Option, Some, None, refl, sym, ap, ◌∙◌, subst, arith, true, false, Bool}
 use Rattle.c_tree.specs.declared.token.Token.{Token}
-use Rattle.c_tree.specs.declared.token.Kind.{Kind}
-use Rattle.c_tree.specs.declared.token.Kind.TheVariants as kind
 use Rattle.c_tree.specs.declared.token.Word.{Word}
 use Rattle.c_tree.specs.declared.token.Word.TheVariants as word
 use Rattle.c_tree.specs.declared.tree.Unary.TheVariants as unary
@@ -14,9 +12,8 @@ use Rattle.c_tree.specs.declared.tree.Callee.{Callee}
 use Rattle.c_tree.specs.declared.tree.Callee.TheVariants as callee'
 use Rattle.c_tree.specs.declared.tree.Given.{Given}
 use Rattle.c_tree.specs.declared.tree.Given.TheVariants as given'
-use Rattle.c_tree.specs.declared.tree.Stmt.{Stmt}
 use Rattle.c_tree.specs.Scan.{Spot}
-use Rattle.c_tree.specs.Expressions.{Form, Num, Eof, Null, Named, Index, Address, AddressAt, Brackets, Sign, Both, the, a_name, name_at, mark, IsWell, tree, tokens, depth}
+use Rattle.c_tree.specs.Expressions.{Form, Num, Eof, Null, Named, Index, Address, AddressAt, Brackets, Sign, Both, the, name_at, mark, IsWell, tree, tokens, depth}
 use Rattle.c_tree.specs.Listed.{Listed}
 use Rattle.c_tree.specs.Listed as list
 use Rattle.c_tree.specs.Calls.{Values, values_tokens, values_trees, AreWell, values_depth, CalleeForm, Main, CallForm, Calls, Input, callee_token, call_tokens, IsWellCall, call_depth, call_stmt, GivenForm, Value, Answer, given_tokens, IsWellGiven, given_depth}
@@ -25,13 +22,13 @@ use Rattle.c_reader.specs.declared.look.Opening.{Opening}
 use Rattle.c_reader.specs.declared.look.Opening.TheVariants as opening
 use Rattle.c_reader.specs.declared.calls.Called.{Called}
 use Rattle.c_reader.specs.declared.calls.Called.TheVariants as called'
-use Rattle.c_reader.specs.Reading.{Got, got, Read, Reader, ◌>>=◌, same, if_same, word_of, front, after_word, after, name, opening_of, value}
-use Rattle.c_reader.specs.Listing.{listed, listing, push}
+use Rattle.c_reader.specs.Reading.{Got, got, ◌>>=◌, same, if_same, word_of, front, after_word, after, name, opening_of, value}
+use Rattle.c_reader.specs.Listing.{push}
 use Rattle.c_reader.specs.ReadingCalls.{values, values_below, arguments_of, arguments, callee_of, callee, call_of, call, is_there, is_call, given_by, stmt_by, given_of, given}
 use Rattle.c_reader.proofs.TokenKinds.{same_is, after_is}
 use Rattle.c_reader.proofs.Complete.{Ends, value_read}
-use Rattle.c_reader.proofs.Sound.{bind_some, Names, name_is, SpeltValue, value_sound}
-use Rattle.c_reader.proofs.Listings.{Item, Items, Reads, listed_read, listed_sound, gathered, pushed, all_within, all_well}
+use Rattle.c_reader.proofs.Sound.{bind_some, name_is, value_sound}
+use Rattle.c_reader.proofs.Listings.{Item, Reads, listed_read, listed_sound, pushed, all_within, all_well}
 use Rattle.c_reader.proofs.Takes.{form_grows}
 
 -- ---- what stands in front of an expression

@@ -1,5 +1,5 @@
 -- What is spelled is read: expressions.
-use Rattle.std.proofs.Common.{◌≡◌, ℕ, zero, suc, ◌+◌, ◌<◌, ◌≤◌, List, [], ◌∷◌, Option, Some, None, refl, sym, ap, ◌∙◌, subst, arith}
+use Rattle.std.proofs.Common.{◌≡◌, ℕ, zero, suc, ◌+◌, ◌<◌, ◌≤◌, List, ◌∷◌, Option, Some, None, refl, sym, ap, ◌∙◌, subst, arith, false}
 use Rattle.std.specs.Prelude.{max}
 use Rattle.c_tree.specs.declared.token.Token.{Token}
 use Rattle.c_tree.specs.declared.token.Word.{Word}
@@ -11,7 +11,7 @@ use Rattle.c_tree.specs.declared.tree.Binary.TheVariants as binary
 use Rattle.c_tree.specs.declared.tree.Expr.TheVariants as expr'
 use Rattle.c_tree.specs.Scan.{Spot}
 use Rattle.c_tree.specs.Expressions.{Form, Num, Eof, Null, Named, Index, Address, AddressAt, Brackets, Sign, Both, the, name_at, sign, binds, mark, level, IsWell, tree, tokens, depth}
-use Rattle.c_reader.specs.Reading.{Got, got, Deep, deep, ◌>>=◌, Inner, after, name, named_of, address_of, with_expr, closed, signed, first, operator, joined, turn, more, whole, below, expr, value}
+use Rattle.c_reader.specs.Reading.{got, Deep, deep, ◌>>=◌, Inner, after, is_name, named_of, address_of, with_expr, closed, signed, first, operator, joined, turn, more, whole, below, expr, value}
 use Rattle.c_reader.proofs.TokenKinds.{lt_true, lt_false}
 
 -- the next token binds looser than this
@@ -205,7 +205,7 @@ pub record Ends (ts : List Token) : Type 0 where
   pub no_index : after word.LBracket ts ≡ None
   pub no_call : after word.LParen ts ≡ None
   pub no_equals : after word.Assign ts ≡ None
-  pub no_name : name ts ≡ None
+  pub no_name : is_name ts ≡ false
 
 -- what is spelled within the depth is read, up to a token with which no expression goes on
 pub value_read : (d : ℕ) (f : Form) (rest : List Token) → IsWell f → depth f ≤ d → Ends rest → value d (tokens f rest) ≡ Some (got (tree f) rest)

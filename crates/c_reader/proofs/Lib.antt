@@ -12,3 +12,14 @@ pub mod StatementsGrow
 pub mod StatementReads
 pub mod StatementSound
 pub mod StatementTurns
+pub mod ObjectForms
+pub mod ItemForms
+pub mod Files
+pub mod Runs
+pub mod Numbers
+pub mod Quotes
+pub mod Marks
+pub mod Comments
+pub mod Lines
+pub mod Scans
+pub mod Accepted

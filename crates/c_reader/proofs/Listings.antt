@@ -1,12 +1,11 @@
 -- Items with commas between them: the loop, and what it reads.
-use Rattle.std.proofs.Common.{◌≡◌, ℕ, zero, suc, ◌+◌, ◌<◌, ◌≤◌, List, [], ◌∷◌, ◌++◌, length, Option, Some, None, refl, sym, ap, ◌∙◌, subst, arith, append_assoc, append-nil}
-use Rattle.std.specs.Prelude.{max}
+use Rattle.std.proofs.Common.{◌≡◌, ℕ, zero, suc, ◌<◌, ◌≤◌, List, [], ◌∷◌, ◌++◌, length, Option, Some, None, refl, sym, ap, ◌∙◌, subst, arith, append_assoc, append-nil}
 use Rattle.c_tree.specs.declared.token.Token.{Token}
 use Rattle.c_tree.specs.declared.token.Word.TheVariants as word
 use Rattle.c_tree.specs.Scan.{Spot}
 use Rattle.c_tree.specs.Expressions.{the}
 use Rattle.c_tree.specs.Listed.{Listed, Last, Then, tokens, trees, AreWell, depth}
-use Rattle.c_reader.specs.Reading.{Got, got, Read, Reader, ◌>>=◌, after}
+use Rattle.c_reader.specs.Reading.{Got, got, Reader, ◌>>=◌, after}
 use Rattle.c_reader.specs.Listing.{listed_on, listed, push}
 use Rattle.c_reader.proofs.TokenKinds.{after_is}
 use Rattle.c_reader.proofs.Complete.{Ends}

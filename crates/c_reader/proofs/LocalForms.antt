@@ -3,7 +3,6 @@ use Rattle.std.proofs.Common.{◌≡◌, ℕ, zero, suc, ◌+◌, ◌<◌, ◌�
 use Rattle.c_tree.specs.declared.token.Token.{Token}
 use Rattle.c_tree.specs.declared.token.Word.TheVariants as word
 use Rattle.c_tree.specs.declared.tree.Name.{Name}
-use Rattle.c_tree.specs.declared.tree.Given.{Given}
 use Rattle.c_tree.specs.declared.tree.LocalDecl.{LocalDecl}
 use Rattle.c_tree.specs.declared.tree.Stmt.{Stmt}
 use Rattle.c_tree.specs.declared.tree.Stmt.TheVariants as stmt'
@@ -12,11 +11,10 @@ use Rattle.c_tree.specs.Expressions.{the, a_name, name_at}
 use Rattle.c_tree.specs.Expressions as expr'
 use Rattle.c_tree.specs.Listed.{Listed}
 use Rattle.c_tree.specs.Listed as list
-use Rattle.c_tree.specs.Calls.{GivenForm, Value, Answer, Calls, Input, Values, values_tokens, CallForm, callee_token, call_tokens, given_tokens, IsWellGiven, given_depth}
-use Rattle.c_tree.specs.Calls as spelt
+use Rattle.c_tree.specs.Calls.{GivenForm, Value, Answer, Calls, Input, Values, values_tokens, CallForm, call_tokens, given_tokens}
 use Rattle.c_tree.specs.Statements.{LocalForm, star_tokens, is_pointer, initial_tokens, initial, IsWellInitial, initial_depth, local_tokens, local_tree, IsWellLocal, local_depth}
-use Rattle.c_reader.specs.Reading.{Got, got, Read, ◌>>=◌, after, name}
-use Rattle.c_reader.specs.Listing.{listing, listed, push}
+use Rattle.c_reader.specs.Reading.{Got, got, ◌>>=◌, after, name}
+use Rattle.c_reader.specs.Listing.{listing, push}
 use Rattle.c_reader.specs.ReadingCalls.{given}
 use Rattle.c_reader.specs.ReadingStatements.{local_decl, local_given, local_named, local_of, local, declaration, declaration_below}
 use Rattle.c_reader.proofs.TokenKinds.{after_is}

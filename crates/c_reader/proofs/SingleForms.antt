@@ -1,5 +1,5 @@
 -- What is read is spelled, and what is spelled is read: single statements.
-use Rattle.std.proofs.Common.{◌≡◌, ℕ, ◌+◌, ◌<◌, ◌≤◌, List, [], ◌∷◌, length, Option, Some, None, refl, sym, ap, ◌∙◌, subst, arith, true, false, Bool, ◌⊎◌, inl, inr}
+use Rattle.std.proofs.Common.{◌≡◌, ℕ, ◌≤◌, List, [], ◌∷◌, Option, Some, None, refl, sym, ap, ◌∙◌, subst, arith, true, false, Bool, ◌⊎◌, inl, inr}
 use Rattle.c_tree.specs.declared.token.Token.{Token}
 use Rattle.c_tree.specs.declared.token.Kind.{Kind}
 use Rattle.c_tree.specs.declared.token.Kind.TheVariants as kind
@@ -9,7 +9,6 @@ use Rattle.c_tree.specs.declared.tree.Name.{Name}
 use Rattle.c_tree.specs.declared.tree.Expr.{Expr}
 use Rattle.c_tree.specs.declared.tree.Place.{Place}
 use Rattle.c_tree.specs.declared.tree.Place.TheVariants as place'
-use Rattle.c_tree.specs.declared.tree.Assign.{Assign}
 use Rattle.c_tree.specs.declared.tree.PrintPiece.{PrintPiece}
 use Rattle.c_tree.specs.declared.tree.Stmt.{Stmt}
 use Rattle.c_tree.specs.declared.tree.Stmt.TheVariants as stmt'
@@ -20,18 +19,17 @@ use Rattle.c_tree.specs.Listed.{Listed}
 use Rattle.c_tree.specs.Listed as list
 use Rattle.c_tree.specs.Calls.{Values, values_trees, values_depth, CallForm, Calls, Input, Main, call_tokens, call_stmt, call_depth, IsWellCall, GivenForm, Value, Answer, given_tokens}
 use Rattle.c_tree.specs.Calls as spelt
-use Rattle.c_tree.specs.Statements.{PlaceForm, Named, Index, At, place_tokens, place_tree, SetForm, set_tokens, set_tree, IsWellSet, set_depth, PrintForm, more_tokens, more_values, SingleForm, Empty, Set, SetAnswer, Call, Put, Print, Return, Break, Continue, Checkpoint, Exclude, single_tokens, single_tree, IsWellSingle, single_depth, first_line}
-use Rattle.c_reader.specs.declared.calls.Called.{Called}
+use Rattle.c_tree.specs.Statements.{PlaceForm, Named, Index, At, place_tokens, place_tree, SetForm, set_tokens, set_tree, IsWellSet, set_depth, more_tokens, more_values, SingleForm, Empty, Set, SetAnswer, Call, Put, Print, Return, Break, Continue, Checkpoint, Exclude, single_tokens, single_tree, IsWellSingle, single_depth, first_line}
 use Rattle.c_reader.specs.declared.singles.Start.{Start}
 use Rattle.c_reader.specs.declared.singles.Start.TheVariants as start'
-use Rattle.c_reader.specs.Reading.{Got, got, Read, ◌>>=◌, word_of, front, after, tail, value}
+use Rattle.c_reader.specs.Reading.{Got, got, Read, ◌>>=◌, word_of, after, tail}
 use Rattle.c_reader.specs.ReadingCalls.{values_below, call, is_call, stmt_by, given}
 use Rattle.c_reader.specs.ReadingStatements.{place, assign_of, set_value, condition, format_of, format, printed, print, given_stmt, assigned_value, assigned, simple_of, simple, start_of, start_at, start, only_in_loop, single, ended}
 use Rattle.c_reader.proofs.TokenKinds.{after_is, spot_of}
-use Rattle.c_reader.proofs.Complete.{Ends, value_read}
-use Rattle.c_reader.proofs.Sound.{bind_some, value_sound}
-use Rattle.c_reader.proofs.CallForms.{ends_rparen, ends_semi, values_below_read, values_below_sound, called, call_read, call_is_call, call_sound, stmt_is, given_read, given_sound}
-use Rattle.c_reader.proofs.Assigning.{place_of_set, value_of_set, place_no_call, condition_read, SpeltPlace, place_sound, SpeltSet, set_is, condition_sound}
+use Rattle.c_reader.proofs.Complete.{Ends}
+use Rattle.c_reader.proofs.Sound.{bind_some}
+use Rattle.c_reader.proofs.CallForms.{ends_rparen, ends_semi, values_below_read, values_below_sound, call_read, call_is_call, call_sound, stmt_is, given_read, given_sound}
+use Rattle.c_reader.proofs.Assigning.{place_of_set, value_of_set, place_no_call, condition_read, SpeltPlace, place_sound, set_is, condition_sound}
 
 -- ---- what is spelled is read
 
@@ -253,7 +251,7 @@ name_set_sound d b l ts us vs n x s a h =
     let t : ts ≡ a_name p.0 p.1 ∷ the r.0 word.Assign ∷ vs = s.tokens_are ∙ ap (λ f. place_tokens f us) p.2 ∙ ap (λ w. a_name p.0 p.1 ∷ w) r.1 in
     let y = named_given d b l ts vs c.0.rest p.0 p.1 r.0 v.form v.well v.within t v.tokens_are in
     let e : got (given_stmt l (name_at p.0 p.1) (spelt.given v.form)) c.0.rest ≡ x =
-        ap (λ m. got (given_stmt l m (spelt.given v.form)) c.0.rest) p.3 ∙ ap (λ g. got (given_stmt l n g) c.0.rest) v.is ∙ some_is (c.2) in
+    ap (λ m. got (given_stmt l m (spelt.given v.form)) c.0.rest) p.3 ∙ ap (λ g. got (given_stmt l n g) c.0.rest) v.is ∙ some_is (c.2) in
     subst (SpeltSingle d b l ts) e y
 
 assigned_sound : (d : ℕ) (b : Bool) (l : ℕ) (ts us vs : List Token) (p : Place) (x : Got Stmt) → SpeltPlace d ts (got p us) → after word.Assign us ≡ Some vs → assigned d l p vs ≡ Some x → SpeltSingle d b l ts x

@@ -15,7 +15,7 @@ use Rattle.c_tree.specs.declared.tree.Expr.{Expr}
 use Rattle.c_tree.specs.declared.tree.Expr.TheVariants as expr'
 use Rattle.c_tree.specs.Scan.{Spot, at}
 use Rattle.c_tree.specs.Expressions.{Form, Num, Eof, Null, Named, Index, Address, AddressAt, Brackets, Sign, Both, the, a_name, name_at, sign, binds, mark, level, IsWell, tree, tokens, depth}
-use Rattle.c_reader.specs.Reading.{Got, got, Deep, deep, ◌>>=◌, Inner, after, name_of, name, word_of, front, tail, closed, with_expr, index, named_of, address_of, address, signed, opening_of, opened, first, first_of, operator, operator_at, operator_of, joined, turn, more, whole, below, expr, value}
+use Rattle.c_reader.specs.Reading.{Got, got, Deep, deep, ◌>>=◌, Inner, after, name_of, name, word_of, tail, closed, with_expr, index, named_of, address_of, address, signed, opening_of, opened, first, first_of, operator, operator_at, operator_of, joined, turn, more, whole, below, expr, value}
 use Rattle.c_reader.proofs.TokenKinds.{lt_is, not_lt_is, after_is, spot_of}
 use Rattle.c_reader.proofs.Complete.{Stops, StopsAt, below_prefix, stops_at}
 

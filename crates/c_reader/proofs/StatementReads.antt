@@ -1,6 +1,5 @@
 -- What is spelled is read: statements.
-use Rattle.std.proofs.Common.{◌≡◌, ℕ, zero, suc, ◌+◌, ◌<◌, ◌≤◌, List, [], ◌∷◌, ◌++◌, length, Option, Some, None, refl, sym, ap, ◌∙◌, subst, arith, append_assoc, append-nil, true, false, Bool}
-use Rattle.std.specs.Prelude.{max}
+use Rattle.std.proofs.Common.{◌≡◌, ℕ, zero, suc, ◌≤◌, List, [], ◌∷◌, ◌++◌, length, Some, None, refl, sym, ap, ◌∙◌, subst, arith, append_assoc, append-nil, true, false, Bool}
 use Rattle.c_tree.specs.declared.token.Token.{Token}
 use Rattle.c_tree.specs.declared.token.Word.TheVariants as word
 use Rattle.c_tree.specs.declared.tree.Arm.{Arm}
@@ -15,15 +14,14 @@ use Rattle.c_tree.specs.Calls.{CallForm, Calls, Input, Main, call_tokens}
 use Rattle.c_tree.specs.Calls as spelt
 use Rattle.c_tree.specs.Statements.{PlaceForm, Named, Index, At, place_tokens, SetForm, LocalForm, local_tokens, local_tree, IsWellLocal, local_depth, HeadForm, init_tree, test_tree, update_tree, head_tokens, IsWellHead, head_depth, SingleForm, Empty, Set, SetAnswer, Call, Put, Print, Return, Break, Continue, Checkpoint, Exclude, single_tokens, single_tree, IsWellSingle, single_depth, StmtForm, Single, Block, If, IfElse, While, Do, For, StmtForms, End, Then, Declares, Chain, First, Further, tokens, tokens_all, tokens_chain, first_line, chain_line, arm, tree, trees, arms, depth, depth_all, depth_chain, open_end, is_if, last_open, IsWell, AreWell, IsWellChain}
 use Rattle.c_tree.specs.Statements as form
-use Rattle.c_reader.specs.declared.assignments.Head.{Head}
 use Rattle.c_reader.specs.declared.singles.Start.{Start}
 use Rattle.c_reader.specs.declared.singles.Start.TheVariants as start'
-use Rattle.c_reader.specs.Reading.{Got, got, Read, ◌>>=◌, after, tail}
+use Rattle.c_reader.specs.Reading.{got, ◌>>=◌, after}
 use Rattle.c_reader.specs.ReadingStatements as r
 use Rattle.c_reader.proofs.Assigning.{condition_read, head_read}
 use Rattle.c_reader.proofs.LocalForms.{declaration_below_read}
 use Rattle.c_reader.proofs.SingleForms.{ended_read, is_single, single_start, single_line}
-use Rattle.c_reader.proofs.StatementsGrow.{condition_grows, declares_grow, stmt_grows, stmts_grow}
+use Rattle.c_reader.proofs.StatementsGrow.{condition_grows, declares_grow, stmt_grows}
 
 -- what stands in front of no statement
 pub record Fronts (ts : List Token) : Type 0 where

@@ -3,7 +3,6 @@ use Rattle.std.proofs.Common.{◌≡◌, ℕ, zero, suc, ◌+◌, ◌<◌, ◌�
 use Rattle.std.specs.Prelude.{max}
 use Rattle.c_tree.specs.declared.token.Token.{Token}
 use Rattle.c_tree.specs.declared.token.Word.TheVariants as word
-use Rattle.c_tree.specs.declared.tree.Expr.{Expr}
 use Rattle.c_tree.specs.declared.tree.Arm.{Arm}
 use Rattle.c_tree.specs.declared.tree.Stmt.{Stmt}
 use Rattle.c_tree.specs.declared.tree.Stmt.TheVariants as stmt'
@@ -24,7 +23,7 @@ use Rattle.c_reader.proofs.Assigning.{condition_sound, SpeltHead, head_sound}
 use Rattle.c_reader.proofs.LocalForms.{declaration_below_sound}
 use Rattle.c_reader.proofs.SingleForms.{Begun, begun, single_line, ended_sound}
 use Rattle.c_reader.proofs.StatementsGrow.{condition_grows, declares_grow, stmt_grows}
-use Rattle.c_reader.proofs.StatementReads.{Follows, chain_spot, chain_inner, chain_is, within_is}
+use Rattle.c_reader.proofs.StatementReads.{Follows, chain_inner, chain_is, within_is}
 
 -- a spelling of a statement that was read within the depth
 pub record SpeltStmt (d : ℕ) (b : Bool) (ts : List Token) (x : Got Stmt) : Type 0 where
@@ -196,11 +195,11 @@ module _ (d : ℕ) (deeper : r.Deeper) (good : GoodStmt d deeper) where
         well = (p.well, q.well);
         within = omega (arith, p.within, q.within);
         tree_is =
-        ap (λ n. stmt'.For n (init_tree p.form.init) (test_tree p.form.test) (update_tree p.form.update) (tree q.form)) gl
-        ∙ ap (λ y. stmt'.For l y (test_tree p.form.test) (update_tree p.form.update) (tree q.form)) p.init_is
-        ∙ ap (λ y. stmt'.For l k.value.init y (update_tree p.form.update) (tree q.form)) p.test_is
-        ∙ ap (λ y. stmt'.For l k.value.init k.value.test y (tree q.form)) p.update_is
-        ∙ ap (stmt'.For l k.value.init k.value.test k.value.update) q.tree_is;
+            ap (λ n. stmt'.For n (init_tree p.form.init) (test_tree p.form.test) (update_tree p.form.update) (tree q.form)) gl
+            ∙ ap (λ y. stmt'.For l y (test_tree p.form.test) (update_tree p.form.update) (tree q.form)) p.init_is
+            ∙ ap (λ y. stmt'.For l k.value.init y (update_tree p.form.update) (tree q.form)) p.test_is
+            ∙ ap (λ y. stmt'.For l k.value.init k.value.test y (tree q.form)) p.update_is
+            ∙ ap (stmt'.For l k.value.init k.value.test k.value.update) q.tree_is;
         tokens_are = t ∙ ap (λ v. the g word.For ∷ v) (p.tokens_are ∙ ap (head_tokens p.form) q.tokens_are);
         follows = q.follows;
       }

@@ -1,5 +1,5 @@
 -- The loops of the reader of statements.
-use Rattle.std.proofs.Common.{◌≡◌, ◌≢◌, ℕ, zero, suc, ◌+◌, ◌-◌, ◌<◌, ◌≤◌, List, [], ◌∷◌, ◌++◌, length, Option, Some, None, refl, sym, ap, ◌∙◌, arith, Bool}
+use Rattle.std.proofs.Common.{◌≡◌, ◌≢◌, ℕ, zero, suc, ◌-◌, ◌<◌, ◌≤◌, List, [], ◌∷◌, ◌++◌, length, Option, Some, None, refl, sym, ap, ◌∙◌, arith, Bool}
 use Rattle.c_tree.specs.declared.token.Token.{Token}
 use Rattle.c_tree.specs.declared.token.Word.TheVariants as word
 use Rattle.c_tree.specs.declared.tree.Arm.{Arm}
@@ -9,7 +9,7 @@ use Rattle.c_reader.specs.declared.look.Fault.{Fault}
 use Rattle.c_reader.specs.declared.look.Fault.TheVariants.{Memory, Unexpected}
 use Rattle.c_reader.specs.Gives.{Fails}
 use Rattle.c_reader.specs.Reading.{Got, got, Read, ◌>>=◌, after}
-use Rattle.c_reader.specs.ReadingStatements.{Deeper, entry, block_turn, block, arm, last_arm, chain_on, chain, statement, stmt_within}
+use Rattle.c_reader.specs.ReadingStatements.{entry, block_turn, block, arm, last_arm, chain_on, chain, statement, stmt_within}
 use Rattle.c_reader.proofs.TokenKinds.{after_is}
 use Rattle.c_reader.proofs.StatementSound.{entry_takes, arm_takes}
 

@@ -1,5 +1,5 @@
 -- Statements have tokens.
-use Rattle.std.proofs.Common.{◌≡◌, ℕ, ◌+◌, ◌<◌, ◌≤◌, List, [], ◌∷◌, length, Option, Some, None, arith}
+use Rattle.std.proofs.Common.{◌+◌, ◌<◌, ◌≤◌, List, ◌∷◌, length, Option, Some, None, arith}
 use Rattle.c_tree.specs.declared.token.Token.{Token}
 use Rattle.c_tree.specs.declared.token.Word.TheVariants as word
 use Rattle.c_tree.specs.Scan.{Spot}

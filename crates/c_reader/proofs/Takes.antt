@@ -1,10 +1,9 @@
 -- What is read takes tokens.
-use Rattle.std.proofs.Common.{◌≡◌, ℕ, ◌+◌, ◌<◌, ◌≤◌, List, [], ◌∷◌, length, Some, ap, arith}
+use Rattle.std.proofs.Common.{ℕ, ◌<◌, List, ◌∷◌, length, ap, arith}
 use Rattle.c_tree.specs.declared.token.Token.{Token}
 use Rattle.c_tree.specs.declared.token.Word.TheVariants as word
-use Rattle.c_tree.specs.declared.tree.Expr.{Expr}
 use Rattle.c_tree.specs.Expressions.{Form, Num, Eof, Null, Named, Index, Address, AddressAt, Brackets, Sign, Both, the, mark, tokens}
-use Rattle.c_reader.specs.Reading.{Got, after, value}
+use Rattle.c_reader.specs.Reading.{value}
 use Rattle.c_reader.proofs.Sound.{value_sound}
 use Rattle.c_reader.proofs.Listings.{Takes}
 

@@ -2,7 +2,7 @@
 use Rattle.std.specs.Prelude.{ℕ, zero, suc, List, [], ◌∷◌, ◌++◌, length, Option, Some, None}
 use Rattle.c_tree.specs.declared.token.Token.{Token}
 use Rattle.c_tree.specs.declared.token.Word.TheVariants as word
-use Rattle.c_reader.specs.Reading.{Got, got, Read, Reader, ◌>>=◌, after}
+use Rattle.c_reader.specs.Reading.{got, Read, Reader, ◌>>=◌, after}
 
 -- behind the last item, or with a further one behind a comma
 abbrev pub listed_on : {B : Type 0} → (B → Reader B) → B → List Token → Option (List Token) → Read B

@@ -1,5 +1,5 @@
 -- What the reader of expressions computes, on lists.
-use Rattle.std.specs.Prelude.{ℕ, zero, suc, ℤ, pos, negsuc, ◌+◌, max, Bool, true, false, ◌==◌, List, [], ◌∷◌, Option, Some, None, nat_lt, if◌then◌else◌}
+use Rattle.std.specs.Prelude.{ℕ, zero, suc, pos, negsuc, ◌+◌, max, Bool, true, false, ◌==◌, List, [], ◌∷◌, Option, Some, None, nat_lt, if◌then◌else◌}
 use Rattle.c_tree.specs.declared.token.Token.{Token}
 use Rattle.c_tree.specs.declared.token.Kind.{Kind}
 use Rattle.c_tree.specs.declared.token.Kind.TheVariants as kind
@@ -126,6 +126,15 @@ name_of _ n ts = None
 abbrev pub name : Reader Name
 name [] = None
 name (t ∷ ts) = name_of t.kind t.constants ts
+
+abbrev pub kind_names : Kind → Bool
+kind_names (kind.Name x) = true
+kind_names _ = false
+
+-- a name stands in front
+abbrev pub is_name : List Token → Bool
+is_name [] = false
+is_name (t ∷ ts) = kind_names t.kind
 
 -- ---- an expression
 

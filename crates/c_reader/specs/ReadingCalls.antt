@@ -15,7 +15,7 @@ use Rattle.c_tree.specs.declared.tree.Stmt.{Stmt}
 use Rattle.c_tree.specs.declared.tree.Stmt.TheVariants as stmt
 use Rattle.c_reader.specs.declared.calls.Called.{Called}
 use Rattle.c_reader.specs.declared.calls.Called.TheVariants as called'
-use Rattle.c_reader.specs.Reading.{Got, got, Read, Reader, ◌>>=◌, after, name, value}
+use Rattle.c_reader.specs.Reading.{got, Read, Reader, ◌>>=◌, after, name, value}
 use Rattle.c_reader.specs.Listing.{listing}
 
 -- values with commas between them

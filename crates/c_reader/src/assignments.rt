@@ -76,11 +76,7 @@ fn set(alloc: Global, tokens: &[Token], depth: usize) -> Result<(Assign, &[Token
 }
 
 /// An expression in brackets.
-pub fn condition(
-    alloc: Global,
-    tokens: &[Token],
-    depth: usize,
-) -> Result<(Expr, &[Token]), Fault>
+pub fn condition(alloc: Global, tokens: &[Token], depth: usize) -> Result<(Expr, &[Token]), Fault>
     ensures answer { Gives (λ x. reading.got x.0 x.1.now) result (spec.condition depth tokens.now) }
 {
     let inside = expect(tokens, Word::LParen)?;

@@ -105,11 +105,7 @@ fn format(alloc: Global, tokens: &[Token]) -> Result<(Pieces, &[Token]), Fault>
 }
 
 /// The values that `printf` writes, up to the bracket that closes them.
-fn printed(
-    alloc: Global,
-    tokens: &[Token],
-    depth: usize,
-) -> Result<(Items<Expr>, &[Token]), Fault>
+fn printed(alloc: Global, tokens: &[Token], depth: usize) -> Result<(Items<Expr>, &[Token]), Fault>
     ensures answer { Gives (λ x. reading.got x.0 x.1.now) result (spec.printed depth tokens.now (reading.after word.Comma tokens.now)) }
 {
     match skip(tokens, Word::Comma) {
@@ -236,12 +232,7 @@ fn only_in_loop(tokens: &[Token], in_loop: bool) -> Result<&[Token], Fault>
 }
 
 /// `putchar` with its value.
-fn put(
-    alloc: Global,
-    tokens: &[Token],
-    depth: usize,
-    line: u32,
-) -> Result<(Stmt, &[Token]), Fault>
+fn put(alloc: Global, tokens: &[Token], depth: usize, line: u32) -> Result<(Stmt, &[Token]), Fault>
     ensures answer { Gives (λ x. reading.got x.0 x.1.now) result (spec.single depth false line start'.Put tokens.now) }
 {
     let (value, rest) = condition(alloc, tail(tokens), depth)?;

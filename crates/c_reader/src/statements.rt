@@ -40,8 +40,7 @@ fn entry(
 {
     match skip(tokens, Word::Long) {
         Some(after) => {
-            let (statement, rest) =
-                declaration_below(alloc, after, depth, first_line(tokens))?;
+            let (statement, rest) = declaration_below(alloc, after, depth, first_line(tokens))?;
             Ok((statement, rest))
         }
         None => {
@@ -129,8 +128,7 @@ fn chain(
             Some(behind) => match skip(behind, Word::If) {
                 Some(more) => rest = more,
                 None => {
-                    let (statement, end) =
-                        last_arm(alloc, behind, depth, in_loop, line, arms)?;
+                    let (statement, end) = last_arm(alloc, behind, depth, in_loop, line, arms)?;
                     return Ok((statement, end));
                 }
             },

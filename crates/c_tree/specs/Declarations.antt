@@ -1,5 +1,5 @@
 -- Which tokens spell what stands at file scope (C99, 6.7 and 6.9).
-use Rattle.std.specs.Prelude.{ℕ, ℤ, Bool, false, List, [], ◌∷◌, Option, Some, None}
+use Rattle.std.specs.Prelude.{ℕ, ℤ, Bool, List, [], ◌∷◌, Option, Some, None}
 use Rattle.c_tree.specs.declared.token.Token.{Token}
 use Rattle.c_tree.specs.declared.token.Kind.TheVariants as kind
 use Rattle.c_tree.specs.declared.token.Word.TheVariants as word
@@ -9,14 +9,11 @@ use Rattle.c_tree.specs.declared.tree.ObjectForm.{ObjectForm}
 use Rattle.c_tree.specs.declared.tree.ObjectForm.TheVariants as object'
 use Rattle.c_tree.specs.declared.tree.ObjectDecl.{ObjectDecl}
 use Rattle.c_tree.specs.declared.tree.Parameter.{Parameter}
-use Rattle.c_tree.specs.declared.tree.Item.{Item}
-use Rattle.c_tree.specs.declared.tree.Item.TheVariants as item'
 use Rattle.c_tree.specs.Scan.{Spot, at}
 use Rattle.c_tree.specs.Expressions.{the, a_name, name_at}
 use Rattle.c_tree.specs.Listed.{Listed}
 use Rattle.c_tree.specs.Listed as list
-use Rattle.c_tree.specs.Statements.{StmtForms, star_tokens, is_pointer}
-use Rattle.c_tree.specs.Statements as stmt
+use Rattle.c_tree.specs.Statements.{star_tokens, is_pointer}
 
 -- ---- objects
 

@@ -1,5 +1,5 @@
 -- Which tokens spell an expression (C99, 6.5).
-use Rattle.std.specs.Prelude.{ℕ, ℤ, pos, negsuc, ◌+◌, ◌<◌, ◌≤◌, max, List, [], ◌∷◌, Option, Some, None}
+use Rattle.std.specs.Prelude.{ℕ, ℤ, pos, negsuc, ◌+◌, ◌<◌, ◌≤◌, max, List, ◌∷◌, Some, None}
 use Rattle.c_tree.specs.declared.token.Token.{Token}
 use Rattle.c_tree.specs.declared.token.Kind.TheVariants as kind
 use Rattle.c_tree.specs.declared.token.Word.{Word}

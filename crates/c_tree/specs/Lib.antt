@@ -28,3 +28,5 @@ pub mod CellNames
 pub mod State
 -- what a program does
 pub mod Meaning
+-- which runs agree up to some ticks
+pub mod Agreement

@@ -10,6 +10,10 @@ use Rattle.c_tree.specs.declared.token.Piece.{Piece}
 use Rattle.c_tree.specs.declared.token.Piece.TheVariants as piece'
 use Rattle.c_tree.specs.declared.token.Directive.{Directive}
 use Rattle.c_tree.specs.declared.token.Directive.TheVariants as directive'
+use Rattle.c_tree.specs.declared.token.Within.{Within}
+use Rattle.c_tree.specs.declared.token.Within.TheVariants as within
+use Rattle.c_tree.specs.declared.token.Turn.{Turn}
+use Rattle.c_tree.specs.declared.token.Turn.TheVariants as turn'
 use Rattle.c_tree.specs.declared.tree.Constant.{Constant}
 use Rattle.c_tree.specs.declared.tree.PrintPiece.{PrintPiece}
 use Rattle.c_tree.specs.declared.tree.PrintPiece.TheVariants as writes
@@ -95,39 +99,25 @@ character (b ∷ bs) = if b == 92 then after_backslash bs else closed (if is_pla
 
 -- ---- strings (C99, 6.4.5), of the forms that `printf` takes here
 
--- what stands before a byte of a string: nothing, a backslash, `%`, or `%l`
-pub data Within : Type 0 where
-  Plain : Within
-  Backslash : Within
-  Percent : Within
-  PercentL : Within
-
--- what a byte of a string does
-pub data Turn : Type 0 where
-  Writes : PrintPiece → Turn
-  Goes : Within → Turn
-  Closes : Turn
-  Spoils : Turn
-
 abbrev pub writes_or_spoils : Option ℕ → Turn
-writes_or_spoils None = Spoils
-writes_or_spoils (Some b) = Writes (writes.Byte b)
+writes_or_spoils None = turn'.Spoils
+writes_or_spoils (Some b) = turn'.Writes (writes.Byte b)
 
 abbrev pub turn : Within → ℕ → Turn
-turn Plain b =
-    if b == 34 then Closes
-    else (if b == 92 then Goes Backslash
-    else (if b == 37 then Goes Percent
-    else (if is_plain 34 b then Writes (writes.Byte b) else Spoils)))
-turn Backslash b = if b == 34 then Writes (writes.Byte 34) else writes_or_spoils (escaped b)
-turn Percent b = if b == 37 then Writes (writes.Byte 37) else (if b == 108 then Goes PercentL else Spoils)
-turn PercentL b = if b == 100 then Writes writes.Number else Spoils
+turn within.Plain b =
+    if b == 34 then turn'.Closes
+    else (if b == 92 then turn'.Goes within.Backslash
+    else (if b == 37 then turn'.Goes within.Percent
+    else (if is_plain 34 b then turn'.Writes (writes.Byte b) else turn'.Spoils)))
+turn within.Backslash b = if b == 34 then turn'.Writes (writes.Byte 34) else writes_or_spoils (escaped b)
+turn within.Percent b = if b == 37 then turn'.Writes (writes.Byte 37) else (if b == 108 then turn'.Goes within.PercentL else turn'.Spoils)
+turn within.PercentL b = if b == 100 then turn'.Writes writes.Number else turn'.Spoils
 
 abbrev pub turned : Turn → List PrintPiece → ℕ → (Within → List PrintPiece → Piece) → Piece
-turned (Writes p) ps n go = go Plain (ps ++ p ∷ [])
-turned (Goes w) ps n go = go w ps
-turned Closes ps n go = piece'.Is (kind.Format ps) (n + 1)
-turned Spoils ps n go = piece'.BadByte n
+turned (turn'.Writes p) ps n go = go within.Plain (ps ++ p ∷ [])
+turned (turn'.Goes w) ps n go = go w ps
+turned turn'.Closes ps n go = piece'.Is (kind.Format ps) (n + 1)
+turned turn'.Spoils ps n go = piece'.BadByte n
 
 -- a string of which n bytes were read, which write these pieces; this is what follows
 abbrev pub string : Within → List PrintPiece → ℕ → List ℕ → Piece
@@ -267,15 +257,21 @@ abbrev pub marked : Option Word → ℕ → Piece
 marked None b = marked_short (short_mark b)
 marked (Some w) b = piece'.Is (kind.Word w) 2
 
+-- what follows `/`: a comment, or the mark is taken
+abbrev pub slashed : List ℕ → Piece
+slashed bs =
+    if next_byte bs == 42 then commented (comment (drop 1 bs)) (drop 1 bs)
+    else (if next_byte bs == 47 then piece'.Blank (length (line_rest bs) + 1) 0
+    else marked (long_mark 47 (next_byte bs)) 47)
+
 -- a mark, a string, a character constant or a comment begins with b
 unfoldable pub mark_piece : ℕ → List ℕ → Piece
 mark_piece b bs =
     if b == 39 then character bs
-    else (if b == 34 then string Plain [] 1 bs
+    else (if b == 34 then string within.Plain [] 1 bs
     else (if b == 35 then piece'.Hash
-    else (if (b == 47) && (next_byte bs == 42) then commented (comment (drop 1 bs)) (drop 1 bs)
-    else (if (b == 47) && (next_byte bs == 47) then piece'.Blank (length (line_rest bs) + 1) 0
-    else marked (long_mark b (next_byte bs)) b))))
+    else (if b == 47 then slashed bs
+    else marked (long_mark b (next_byte bs)) b)))
 
 -- what stands at the front of a text that is not over
 unfoldable pub piece : List ℕ → Piece

@@ -12,6 +12,7 @@ mod cell_names;
 mod cells;
 mod checked;
 mod excludes;
+mod laws;
 mod nodes;
 mod resolved;
 mod token;
@@ -19,12 +20,13 @@ mod tree;
 
 pub use checked::{Checked, MAIN_NODES, MAX_CELLS, MAX_EXCLUDES, MAX_LOCALS};
 pub use excludes::exclude_count;
+pub use laws::{loops_unroll, statements_are_steady};
 pub use nodes::node_count;
 pub use resolved::{
     Direction, Exprs, ObjectKind, RArm, RAssign, RBinary, RExpr, RFunction, RInit, RLocal, RObject,
     RPlace, RStmt, RUnary, Resolved,
 };
-pub use token::{Directive, Kind, Piece, Token, Word};
+pub use token::{Directive, Kind, Piece, Token, Turn, Within, Word};
 pub use tree::{
     Arm, Assign, Binary, Callee, Constant, Expr, Function, Given, Init, Item, Length, LocalDecl,
     Name, ObjectDecl, ObjectForm, Parameter, Pieces, Place, PrintPiece, Program, Stmt, Unary,

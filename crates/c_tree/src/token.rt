@@ -1,6 +1,6 @@
 //! The tokens of a text.
 
-use crate::tree::{Constant, Pieces};
+use crate::tree::{Constant, Pieces, PrintPiece};
 use ckpt_base::Text;
 
 /// A keyword or a mark (C99, 6.4.1 and 6.4.6).
@@ -156,4 +156,30 @@ pub enum Directive {
     Define(Constant),
     /// Nothing.
     Bad,
+}
+
+/// What stands before a byte of a string.
+#[derive(Clone, Copy, Debug, PartialEq, Eq)]
+pub enum Within {
+    /// Nothing that goes on.
+    Plain,
+    /// A backslash.
+    Backslash,
+    /// `%`
+    Percent,
+    /// `%l`
+    PercentL,
+}
+
+/// What a byte of a string does.
+#[derive(Clone, Copy, Debug, PartialEq, Eq)]
+pub enum Turn {
+    /// It ends what writes this.
+    Writes(PrintPiece),
+    /// It goes on.
+    Goes(Within),
+    /// It closes the string.
+    Closes,
+    /// It spoils the string.
+    Spoils,
 }

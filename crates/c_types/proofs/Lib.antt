@@ -6,3 +6,6 @@ pub mod Arguments
 pub mod Tests
 pub mod Numbers
 pub mod KeptLaws
+pub mod Making
+pub mod RuleLaws
+pub mod Composed

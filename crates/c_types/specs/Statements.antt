@@ -86,9 +86,58 @@ stmt_if l b r = if b then Ok r else Err (WrongType l)
 abbrev pub hole_count : ℕ → List PrintPiece → List Expr → Result (Unit {0}) CheckFault
 hole_count l ps es = if nat_eq (length es) (count_by is_hole ps) then Ok tt else Err (WrongCount l)
 
+-- CHECKPOINT_HERE in `main`; elsewhere it becomes nothing, and is refused by the next pass
+abbrev pub checkpoint_in : Option ℕ → RStmt
+checkpoint_in None = s.Empty
+checkpoint_in (Some c) = s.Checkpoint
+
+abbrev pub checkpoint_stmt : Frame → RStmt
+checkpoint_stmt frame = checkpoint_in frame.first_cell
+
 -- directives are numbered from 1. The numbers end at 65,535: a program with so many has too many
 abbrev pub exclude_number : Env → ℕ
 exclude_number env = min (env.excludes + 1) 65535
+
+abbrev pub exclude_in : Option ℕ → Part RStmt
+exclude_in None = says (λ env. Ok s.Empty)
+exclude_in (Some c) = record { does = λ env. Ok (s.Exclude (exclude_number env)); after = exclude }
+
+-- EXCLUDE_HERE, likewise
+abbrev pub exclude_part : Frame → Part RStmt
+exclude_part frame = exclude_in frame.first_cell
+
+-- the place of the name that is declared next
+abbrev pub next_place : Frame → Env → RPlace
+next_place frame env = place_at frame.first_cell (length env.locals)
+
+-- there is a value for each parameter of the calls of a declaration
+abbrev pub given_count : File → ℕ → Option Given → Result (Unit {0}) CheckFault
+given_count file l None = Ok tt
+given_count file l (Some (given.Value e)) = Ok tt
+given_count file l (Some (given.Call f es)) = count_of l (signature_of file f) es
+given_count file l (Some given.Input) = Ok tt
+
+abbrev pub counts : File → ℕ → List LocalDecl → Result (Unit {0}) CheckFault
+counts file l [] = Ok tt
+counts file l (d ∷ ds) = given_count file l d.given >>= (λ u. counts file l ds)
+
+-- the head of a `for`
+abbrev pub Head : Type 0
+Head = Option RInit × Option RExpr × Option RAssign
+
+abbrev pub heads : Option RInit → Option RExpr → Option RAssign → Head
+heads i x u = (i, x, u)
+
+-- a body, in a loop or not
+abbrev pub Body : Type 0
+Body = Bool → Part RStmt
+
+abbrev pub arm_of : RExpr → RStmt → RArm
+arm_of x r = roll-RArm (record { test = x; body = r })
+
+-- an arm: its test, and its body
+abbrev pub ArmParts : Type 0
+ArmParts = Expr × Body
 
 module _ (file : File) (frame : Frame) where
   abbrev pub numbers : ℕ → List Expr → Env → Result (List RExpr) CheckFault
@@ -98,6 +147,12 @@ module _ (file : File) (frame : Frame) where
   abbrev pub answer : ℕ → Option Name → Env → Result (Option Target) CheckFault
   answer l None env = Ok None
   answer l (Some n) env = named file frame env l n.text >>= (λ t. Ok (Some t))
+
+  abbrev pub set_stmt : ℕ → Assign → Env → Result RStmt CheckFault
+  set_stmt l a env = assign file frame env l a >>= (λ r. Ok (s.Set r.place r.value))
+
+  abbrev pub put_stmt : ℕ → Expr → Env → Result RStmt CheckFault
+  put_stmt l e env = number file frame env l e >>= (λ x. Ok (s.Put x))
 
   abbrev pub call_stmt : ℕ → Option Name → Callee → List Expr → Env → Result RStmt CheckFault
   call_stmt l n f es env =
@@ -123,44 +178,40 @@ module _ (file : File) (frame : Frame) where
 
   -- ---- declarations
 
-  -- the place of the name that is declared next
-  abbrev pub next_place : Env → RPlace
-  next_place env = place_at frame.first_cell (length env.locals)
+  abbrev pub starts_with_call : ℕ → Bool → Callee → List Expr → Env → Result RStmt CheckFault
+  starts_with_call l is_pointer f es env = call file frame env l f es (Some is_pointer) >>= (λ as'. Ok (call_with (number_of file f) (λ g. s.Call (Some (next_place frame env)) g as')))
 
-  abbrev pub starts : ℕ → LocalDecl → Option Given → Env → Result RStmt CheckFault
-  starts l d None env = Ok (s.Declare (next_place env) None)
-  starts l d (Some (given.Value e)) env = fits file frame env l d.is_pointer e >>= (λ x. Ok (s.Declare (next_place env) (Some x)))
-  starts l d (Some (given.Call f es)) env =
-      call file frame env l f es (Some d.is_pointer) >>= (λ as'. Ok (call_with (number_of file f) (λ g. s.Call (Some (next_place env)) g as')))
-  starts l d (Some given.Input) env = stmt_if l (if d.is_pointer then false else true) (s.Input (Some (next_place env)))
+  abbrev pub starts : ℕ → Bool → Option Given → Env → Result RStmt CheckFault
+  starts l is_pointer None env = Ok (s.Declare (next_place frame env) None)
+  starts l is_pointer (Some (given.Value e)) env = fits file frame env l is_pointer e >>= (λ x. Ok (s.Declare (next_place frame env) (Some x)))
+  starts l is_pointer (Some (given.Call f es)) env = starts_with_call l is_pointer f es env
+  starts l is_pointer (Some given.Input) env = stmt_if l (if is_pointer then false else true) (s.Input (Some (next_place frame env)))
 
   -- a name is unknown in its own initialiser
   abbrev pub decl : ℕ → LocalDecl → Part RStmt
-  decl l d = record { does = starts l d d.given; after = λ env. declare env d.name.text d.is_pointer }
-
-  abbrev pub given_count : ℕ → Option Given → Result (Unit {0}) CheckFault
-  given_count l (Some (given.Call f es)) = count_of l (signature_of file f) es
-  given_count l g = Ok tt
-
-  abbrev pub counts : ℕ → List LocalDecl → Result (Unit {0}) CheckFault
-  counts l [] = Ok tt
-  counts l (d ∷ ds) = given_count l d.given >>= (λ u. counts l ds)
+  decl l d = record { does = starts l d.is_pointer d.given; after = λ env. declare env d.name.text d.is_pointer }
 
   -- the counts of all its calls come before the types
   abbrev pub declared : ℕ → List LocalDecl → Part RStmt
   declared l ds = record {
-    does = λ env. counts l ds >>= (λ u. (all (map (decl l) ds)).does env >>= (λ rs. Ok (s.Block rs)));
+    does = λ env. counts file l ds >>= (λ u. (all (map (decl l) ds)).does env >>= (λ rs. Ok (s.Block rs)));
     after = (all (map (decl l) ds)).after;
   }
 
   -- ---- `for`
 
-  abbrev pub init_part : ℕ → Init → Part RInit
-  init_part l (init.Assign a) = says (λ env. assign file frame env l a >>= (λ r. Ok (rinit.Set r)))
-  init_part l (init.Declare n e) = record {
-    does = λ env. fits file frame env l false e >>= (λ x. Ok (rinit.Declare (assigned (next_place env) x)));
+  abbrev pub init_value : ℕ → Expr → Env → Result RAssign CheckFault
+  init_value l e env = fits file frame env l false e >>= (λ x. Ok (assigned (next_place frame env) x))
+
+  abbrev pub init_declare : ℕ → Name → Expr → Part RInit
+  init_declare l n e = record {
+    does = λ env. init_value l e env >>= (λ a. Ok (rinit.Declare a));
     after = λ env. declare env n.text false;
   }
+
+  abbrev pub init_part : ℕ → Init → Part RInit
+  init_part l (init.Assign a) = says (λ env. assign file frame env l a >>= (λ r. Ok (rinit.Set r)))
+  init_part l (init.Declare n e) = init_declare l n e
 
   abbrev pub perhaps_init : ℕ → Option Init → Part (Option RInit)
   perhaps_init l None = says (λ env. Ok None)
@@ -174,13 +225,6 @@ module _ (file : File) (frame : Frame) where
   perhaps_assign l None env = Ok None
   perhaps_assign l (Some a) env = assign file frame env l a >>= (λ r. Ok (Some r))
 
-  -- the head of a `for`
-  abbrev pub Head : Type 0
-  Head = Option RInit × Option RExpr × Option RAssign
-
-  abbrev pub heads : Option RInit → Option RExpr → Option RAssign → Head
-  heads i x u = (i, x, u)
-
   abbrev pub head : ℕ → Option Init → Option Expr → Option Assign → Part Head
   head l i e u = record {
     does = λ env. (perhaps_init l i).does env >>= (λ a. perhaps_number l e ((perhaps_init l i).after env) >>= (λ b. perhaps_assign l u ((perhaps_init l i).after env) >>= (λ c. Ok (heads a b c))));
@@ -191,17 +235,6 @@ module _ (file : File) (frame : Frame) where
   for_parts l i e u body = joined (head l i e u) (inside body) (λ h r. s.For h.0 h.1 h.2 r)
 
   -- ---- statements with parts
-
-  -- a body, in a loop or not
-  abbrev pub Body : Type 0
-  Body = Bool → Part RStmt
-
-  abbrev pub arm_of : RExpr → RStmt → RArm
-  arm_of x r = roll-RArm (record { test = x; body = r })
-
-  -- an arm: its test, and its body
-  abbrev pub ArmParts : Type 0
-  ArmParts = Expr × Body
 
   abbrev pub arm_part : ℕ → Bool → ArmParts → Part RArm
   arm_part l in_loop a = joined (says (λ env. number file frame env l a.0)) (inside (a.1 in_loop)) arm_of
@@ -217,13 +250,6 @@ module _ (file : File) (frame : Frame) where
     after = (joined arms last (λ as' r. s.If as' r)).after;
   }
 
-  -- a directive of `main`; elsewhere it becomes nothing, and is refused by the next pass
-  abbrev pub directive : (Env → RStmt) → (Env → Env) → Part RStmt
-  directive r after = record {
-    does = λ env. Ok (if is_some frame.first_cell then r env else s.Empty);
-    after = λ env. if is_some frame.first_cell then after env else env;
-  }
-
   abbrev pub last_part : Bool → Option Body → Part (Option RStmt)
   last_part in_loop None = says (λ env. Ok None)
   last_part in_loop (Some p) = becomes (inside (p in_loop)) Some
@@ -231,10 +257,10 @@ module _ (file : File) (frame : Frame) where
   abbrev pub stmt_at : Stmt-F Body ArmParts → Body
   stmt_at (Stmt-F.Empty l) in_loop = says (λ env. Ok s.Empty)
   stmt_at (Stmt-F.Declare l ds) in_loop = declared l ds
-  stmt_at (Stmt-F.Set l a) in_loop = says (λ env. assign file frame env l a >>= (λ r. Ok (s.Set r.place r.value)))
+  stmt_at (Stmt-F.Set l a) in_loop = says (set_stmt l a)
   stmt_at (Stmt-F.Call l n f es) in_loop = says (call_stmt l n f es)
   stmt_at (Stmt-F.Input l n) in_loop = says (input_stmt l n)
-  stmt_at (Stmt-F.Put l e) in_loop = says (λ env. number file frame env l e >>= (λ x. Ok (s.Put x)))
+  stmt_at (Stmt-F.Put l e) in_loop = says (put_stmt l e)
   stmt_at (Stmt-F.Print l ps es) in_loop = says (print_stmt l ps es)
   stmt_at (Stmt-F.Return l g) in_loop = says (return_stmt l g)
   stmt_at (Stmt-F.If l arms last) in_loop = if_parts l (map (λ a. a.0) arms) (all (map (arm_part l in_loop) arms)) (last_part in_loop last)
@@ -244,8 +270,8 @@ module _ (file : File) (frame : Frame) where
   stmt_at (Stmt-F.Block l ps) in_loop = inside (becomes (all (map (λ p. p in_loop) ps)) s.Block)
   stmt_at (Stmt-F.Break l) in_loop = says (λ env. stmt_if l in_loop s.Break)
   stmt_at (Stmt-F.Continue l) in_loop = says (λ env. stmt_if l in_loop s.Continue)
-  stmt_at (Stmt-F.Checkpoint l) in_loop = directive (λ env. s.Checkpoint) (λ env. env)
-  stmt_at (Stmt-F.Exclude l) in_loop = directive (λ env. s.Exclude (exclude_number env)) exclude
+  stmt_at (Stmt-F.Checkpoint l) in_loop = says (λ env. Ok (checkpoint_stmt frame))
+  stmt_at (Stmt-F.Exclude l) in_loop = exclude_part frame
 
   abbrev pub arm_at : Arm-F Body ArmParts → ArmParts
   arm_at a = (a.test, a.body)

@@ -2,9 +2,11 @@
 #![tactic(auto)]
 
 mod calls;
+mod declarations;
 mod expressions;
 mod fault;
 mod file;
+mod heads;
 mod known;
 mod named_items;
 mod named_statements;

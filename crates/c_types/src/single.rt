@@ -1,22 +1,26 @@
 //! Statements with no statements in them: calls, input, output and returns.
 #![tactic(auto)]
 
-ghost use Rattle.std.specs.Prelude.{◌≡◌, [], ℕ, Bool, Some, true, false, IfOk, IfSome, length, count_by};
+ghost use Rattle.std.specs.Prelude.{◌≡◌, [], ℕ, Bool, is_some, Some, true, false, IfOk, IfSome, length, count_by};
 ghost use Rattle.std.specs.List.{list_all};
 ghost use Rattle.c_tree.specs.Kinds.{World, kind, is_number, is_hole, keeps_rules, answers, call_kind, place_kind};
 ghost use Rattle.c_tree.specs.Excludes.{excludes};
 ghost use Rattle.c_types.specs.Places as places;
 ghost use Rattle.c_types.specs.Places.{Gets};
 ghost use Rattle.c_types.specs.Statements as spec;
+ghost use Rattle.c_types.specs.Statements.{Answers};
 ghost use Rattle.c_types.specs.Fitting.{Fits, is_wanted};
+ghost use Rattle.c_types.specs.Kept.{Kept, marks};
 
 use crate::calls::{call, count_of, number_of};
 use crate::fault::CheckFault;
 use crate::file::FileNames;
-use crate::places::{Target, fits, named, number};
+use crate::places::{Target, assign, fits, named, number};
 use crate::scope::Scope;
 use crate::types::Frame;
-use c_tree::{Callee, Expr, Exprs, Given, Name, PrintPiece, RExpr, RPlace, RStmt};
+use c_tree::{
+    Assign, Callee, Expr, Exprs, Given, Name, PrintPiece, RAssign, RExpr, RPlace, RStmt,
+};
 use sqlite_items::Items;
 use std::alloc::Global;
 
@@ -232,6 +236,93 @@ pub fn return_stmt(
             } else {
                 Ok(RStmt::ReturnInput)
             }
+        }
+    }
+}
+
+/// An assignment.
+pub fn set_stmt(
+    alloc: Global,
+    file: &FileNames,
+    frame: Frame,
+    scope: &Scope,
+    line: u32,
+    a: &Assign,
+) -> Result<RStmt, CheckFault>
+    ensures gets { Gets (spec.set_stmt file.now frame line a.now scope.now) result }
+    ensures plain { IfOk result (λ r. excludes r ≡ []) }
+    ensures kept { (w : World) (in_loop : Bool) → Fits w file.now frame scope.now.locals → IfOk result (λ r. keeps_rules w r in_loop ≡ true) }
+{
+    let RAssign { place, value } = assign(alloc, file, frame, scope, line, a)?;
+    Ok(RStmt::Set(place, value))
+}
+
+/// `putchar`: a number.
+pub fn put_stmt(
+    alloc: Global,
+    file: &FileNames,
+    frame: Frame,
+    scope: &Scope,
+    line: u32,
+    e: &Expr,
+) -> Result<RStmt, CheckFault>
+    ensures gets { Gets (spec.put_stmt file.now frame line e.now scope.now) result }
+    ensures plain { IfOk result (λ r. excludes r ≡ []) }
+    ensures kept { (w : World) (in_loop : Bool) → Fits w file.now frame scope.now.locals → IfOk result (λ r. keeps_rules w r in_loop ≡ true) }
+{
+    let value = number(alloc, file, frame, scope, line, e)?;
+    Ok(RStmt::Put(value))
+}
+
+/// `break` stands in a loop.
+pub fn break_stmt(line: u32, in_loop: bool) -> Result<RStmt, CheckFault>
+    ensures gets { Gets (spec.stmt_if line in_loop RStmt.Break) result }
+    ensures plain { IfOk result (λ r. excludes r ≡ []) }
+    ensures kept { (w : World) → IfOk result (λ r. keeps_rules w r in_loop ≡ true) }
+{
+    if in_loop {
+        Ok(RStmt::Break)
+    } else {
+        Err(CheckFault::WrongType(line))
+    }
+}
+
+/// `continue` stands in a loop.
+pub fn continue_stmt(line: u32, in_loop: bool) -> Result<RStmt, CheckFault>
+    ensures gets { Gets (spec.stmt_if line in_loop RStmt.Continue) result }
+    ensures plain { IfOk result (λ r. excludes r ≡ []) }
+    ensures kept { (w : World) → IfOk result (λ r. keeps_rules w r in_loop ≡ true) }
+{
+    if in_loop {
+        Ok(RStmt::Continue)
+    } else {
+        Err(CheckFault::WrongType(line))
+    }
+}
+
+/// CHECKPOINT_HERE in `main`; elsewhere nothing, and the next pass refuses it.
+pub fn checkpoint_stmt(frame: Frame) -> RStmt
+    ensures answer { result ≡ spec.checkpoint_stmt frame }
+    ensures plain { excludes result ≡ [] }
+    ensures kept { (w : World) (in_loop : Bool) → w.is_main ≡ is_some frame.first_cell → keeps_rules w result in_loop ≡ true }
+{
+    match frame.first_cell {
+        None => RStmt::Empty,
+        Some(_) => RStmt::Checkpoint,
+    }
+}
+
+/// EXCLUDE_HERE in `main`; elsewhere nothing, and the next pass refuses it.
+pub fn exclude_stmt(file: &FileNames, frame: Frame, scope: &mut Scope) -> Result<RStmt, CheckFault>
+    ensures gives { Answers (spec.exclude_part frame) scope.old scope.new result }
+    ensures kept { (in_loop : Bool) → IfOk result (λ r. Kept file.now frame (marks scope.old) (marks scope.new) (λ w. keeps_rules w r in_loop) (excludes r)) }
+{
+    match frame.first_cell {
+        None => Ok(RStmt::Empty),
+        Some(_) => {
+            scope.exclude()?;
+            let number = scope.excludes().min(65_535);
+            Ok(RStmt::Exclude(number as u16))
         }
     }
 }

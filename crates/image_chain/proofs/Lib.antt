@@ -4,3 +4,11 @@ pub mod ListLaws
 pub mod StepLaws
 -- an append goes on from step to step
 pub mod LoopLaws
+-- a chain that begins, and one that is settled
+pub mod StartLaws
+-- the joined content of records
+pub mod KeptLaws
+-- looking at the files of a store
+pub mod LookLaws
+-- the records of a file, one after another
+pub mod WalkLaws

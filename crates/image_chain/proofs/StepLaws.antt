@@ -31,22 +31,22 @@ pub newest_push : (newest : Option Fields) (rs : List Image) (r : Image) → new
 newest_push newest [] r = refl
 newest_push newest (s ∷ rs) r = newest_push (Some s.fields) rs r
 
-order_push : (newest : Option Fields) (rs : List Image) (r : Image) → AreInOrder newest rs → broken_field (newest_of newest rs) r.fields ≡ None → AreInOrder newest (rs ++ r ∷ [])
+pub order_push : (newest : Option Fields) (rs : List Image) (r : Image) → AreInOrder newest rs → broken_field (newest_of newest rs) r.fields ≡ None → AreInOrder newest (rs ++ r ∷ [])
 order_push newest [] r order follows = (follows, tt)
 order_push newest (s ∷ rs) r order follows = (order.0, order_push (Some s.fields) rs r order.1 follows)
 
-images_push : (rs : List Image) (r : Image) → AllByRecursion IsImage rs → IsImage r → AllByRecursion IsImage (rs ++ r ∷ [])
+pub images_push : (rs : List Image) (r : Image) → AllByRecursion IsImage rs → IsImage r → AllByRecursion IsImage (rs ++ r ∷ [])
 images_push [] r are is = (is, tt)
 images_push (s ∷ rs) r are is = (are.0, images_push rs r are.1 is)
 
-length_push : (rs : List Image) (r : Image) → length (rs ++ r ∷ []) ≡ length rs + 1
+pub length_push : (rs : List Image) (r : Image) → length (rs ++ r ∷ []) ≡ length rs + 1
 length_push rs r = omega (arith, length-append rs (r ∷ []))
 
-chained_push : (rs : List Image) (r : Image) → chained (rs ++ r ∷ []) ≡ chained rs ++ 165 ∷ text r
+pub chained_push : (rs : List Image) (r : Image) → chained (rs ++ r ∷ []) ≡ chained rs ++ 165 ∷ text r
 chained_push [] r = ap (λ (l : List ℕ). 165 ∷ l) (append-nil (text r))
 chained_push (s ∷ rs) r = ap (λ (l : List ℕ). 165 ∷ (text s ++ l)) (chained_push rs r) ∙ ap (λ (l : List ℕ). 165 ∷ l) (sym (append_assoc (text s) (chained rs) (165 ∷ text r)))
 
-chained_length_push : (rs : List Image) (r : Image) → chained_length (rs ++ r ∷ []) ≡ chained_length rs + image_length r
+pub chained_length_push : (rs : List Image) (r : Image) → chained_length (rs ++ r ∷ []) ≡ chained_length rs + image_length r
 chained_length_push [] r = omega arith
 chained_length_push (s ∷ rs) r = let more = chained_length_push rs r in omega arith
 

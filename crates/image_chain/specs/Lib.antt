@@ -6,3 +6,7 @@ pub mod Memory
 pub mod Append
 -- what a crash leaves of the chain at each moment
 pub mod Lists
+-- what a call answers of a store, and what it leaves of the disk
+pub mod Looking
+-- how far the records of a file were read
+pub mod Walk

@@ -1,8 +1,8 @@
 -- What a crash leaves of the chain at each moment, by lists of records.
-use Rattle.std.specs.Prelude.{◌≡◌, ◌⊎◌, ◌↔◌, ℕ, IsTrue, true, List, [], ◌∷◌, ◌++◌, Option, Some, None, Result, Ok, IfOk}
+use Rattle.std.specs.Prelude.{◌≡◌, ◌⊎◌, ◌↔◌, ℕ, ◌+◌, IsTrue, true, List, [], ◌∷◌, ◌++◌, length, Option, Some, None, Result, Ok, IfOk}
 use Rattle.ckpt_base.specs.declared.errors.Failed.{Failed}
 use Rattle.disk_model.specs.declared.disk_file.DiskFile.{DiskFile}
-use Rattle.disk_model.specs.Store.{Store}
+use Rattle.disk_model.specs.Store.{Store, file_of}
 use Rattle.disk_model.specs.View.{View}
 use Rattle.disk_model.specs.Moments.{Among, LeavesOnly}
 use Rattle.image_format.specs.declared.header.Header.{Header}
@@ -65,3 +65,11 @@ Rests chain v rs = (chain.due ≡ Piece 0) × ((behind : List ℕ) × IsAtRest c
 pub record SoFar (start now : Current) (r : Image) (image : List ℕ) (at : Step) (old new : View) (rs : List Image) : Type 0 where
   pub due : Stands now new rs r image at
   pub moments : LeavesOnly old new (Among old.may_leave (IsAppended start rs r))
+
+-- an earlier outcome, but that no file is current and nothing is damaged
+abbrev pub HasNone : Store → Store → Type 0
+HasNone old new = (chain_in new ≡ Ok None) × (new.output ≡ old.output)
+
+-- nothing stands behind the last gate
+abbrev pub IsSettled : Chain → View → Type 0
+IsSettled chain v = length (file_of chain.current.file v.seen) ≡ chain.current.gate + 1

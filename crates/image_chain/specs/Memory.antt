@@ -16,3 +16,6 @@ pub record Joined : Type 0 where
 -- the word of a cell, or none where it is not listed
 abbrev pub kept_word : Joined → ℕ → Option ℕ
 kept_word k c = if slice_index_or k.listed c false then Some (slice_index k.words c) else None
+
+abbrev pub joined : List ℕ → List Bool → Joined
+joined words listed = record { words = words; listed = listed }

@@ -19,7 +19,7 @@ use image_format::{Fields, read_record};
 const PIECE_BYTES: usize = 4096;
 
 /// The gate byte that is open.
-const OPEN_GATE: u8 = 0xA5;
+pub(crate) const OPEN_GATE: u8 = 0xA5;
 
 impl Chain {
     /// The step of an append that is due: `Piece(0)` where no record is under way.

@@ -8,5 +8,14 @@
 
 mod append;
 mod chain;
+mod fault;
+mod kept;
+mod look;
+mod open;
+mod room;
+mod start;
 
 pub use chain::{Chain, Step};
+pub use fault::ChainFault;
+pub use kept::Kept;
+pub use room::ChainRoom;

@@ -1,12 +1,13 @@
 //! The fields of a record, from the front of what is left of its bytes. `end` is where all of them end.
-ghost use Rattle.std.specs.Prelude.{◌≡◌, ◌≤◌, ◌<◌, ◌^◌, ◌==◌, length, List, Ok, IfOk, IfErr, IsTrue, false};
+ghost use Rattle.std.specs.Prelude.{◌≡◌, ◌+◌, ◌≤◌, ◌<◌, ◌^◌, ◌==◌, length, List, Ok, IfOk, IfErr, IsTrue, false};
 ghost use Rattle.std.specs.Int.{w8, w16, w32, w64};
 ghost use Rattle.image_format.specs.Reading.{Gives, bytes_at, number_at, marks_at, places_at, counts_at, Head, head_at};
 
 use crate::fields::{BadRecord, Fields, Marks};
 
 pub(crate) fn part_at(rest: &[u8], n: usize, end: usize) -> Result<(&[u8], &[u8]), BadRecord>
-    ensures { Gives (λ x. (x.0.now, x.1.now)) result (bytes_at n end rest.now) }
+    ensures exact { Gives (λ x. (x.0.now, x.1.now)) result (bytes_at n end rest.now) }
+    ensures place { IfErr result (λ e. e.place ≤ end) }
 {
     if rest.len() < n {
         return Err(BadRecord { place: end });
@@ -15,7 +16,8 @@ pub(crate) fn part_at(rest: &[u8], n: usize, end: usize) -> Result<(&[u8], &[u8]
 }
 
 pub(crate) fn u8_at(rest: &[u8], end: usize) -> Result<(u8, &[u8]), BadRecord>
-    ensures { Gives (λ x. (x.0, x.1.now)) result (number_at w8 end rest.now) }
+    ensures exact { Gives (λ x. (x.0, x.1.now)) result (number_at w8 end rest.now) }
+    ensures place { IfErr result (λ e. e.place ≤ end) }
 {
     if rest.len() < 1 {
         return Err(BadRecord { place: end });
@@ -25,7 +27,8 @@ pub(crate) fn u8_at(rest: &[u8], end: usize) -> Result<(u8, &[u8]), BadRecord>
 }
 
 pub(crate) fn u16_at(rest: &[u8], end: usize) -> Result<(u16, &[u8]), BadRecord>
-    ensures { Gives (λ x. (x.0, x.1.now)) result (number_at w16 end rest.now) }
+    ensures exact { Gives (λ x. (x.0, x.1.now)) result (number_at w16 end rest.now) }
+    ensures place { IfErr result (λ e. e.place ≤ end) }
 {
     if rest.len() < 2 {
         return Err(BadRecord { place: end });
@@ -35,7 +38,8 @@ pub(crate) fn u16_at(rest: &[u8], end: usize) -> Result<(u16, &[u8]), BadRecord>
 }
 
 pub(crate) fn u32_at(rest: &[u8], end: usize) -> Result<(u32, &[u8]), BadRecord>
-    ensures { Gives (λ x. (x.0, x.1.now)) result (number_at w32 end rest.now) }
+    ensures exact { Gives (λ x. (x.0, x.1.now)) result (number_at w32 end rest.now) }
+    ensures place { IfErr result (λ e. e.place ≤ end) }
 {
     if rest.len() < 4 {
         return Err(BadRecord { place: end });
@@ -46,7 +50,8 @@ pub(crate) fn u32_at(rest: &[u8], end: usize) -> Result<(u32, &[u8]), BadRecord>
 }
 
 pub(crate) fn u64_at(rest: &[u8], end: usize) -> Result<(u64, &[u8]), BadRecord>
-    ensures { Gives (λ x. (x.0, x.1.now)) result (number_at w64 end rest.now) }
+    ensures exact { Gives (λ x. (x.0, x.1.now)) result (number_at w64 end rest.now) }
+    ensures place { IfErr result (λ e. e.place ≤ end) }
 {
     if rest.len() < 8 {
         return Err(BadRecord { place: end });
@@ -59,7 +64,8 @@ pub(crate) fn u64_at(rest: &[u8], end: usize) -> Result<(u64, &[u8]), BadRecord>
 }
 
 fn digest_at(rest: &[u8], end: usize) -> Result<([u8; 32], &[u8]), BadRecord>
-    ensures { Gives (λ x. (x.0, x.1.now)) result (bytes_at 32 end rest.now) }
+    ensures exact { Gives (λ x. (x.0, x.1.now)) result (bytes_at 32 end rest.now) }
+    ensures place { IfErr result (λ e. e.place ≤ end) }
 {
     if rest.len() < 32 {
         return Err(BadRecord { place: end });
@@ -85,6 +91,7 @@ pub(crate) fn test(holds: bool, place: usize) -> Result<(), BadRecord>
 #[tactic(auto, unfolding(crate::specs::Reading::marks_at))]
 fn marks(bytes: &[u8], end: usize) -> Result<(u32, Marks, &[u8]), BadRecord>
     ensures exact { Gives (λ x. (x.0, x.1.source, x.1.input, x.2.now)) result (marks_at end bytes.now) }
+    ensures place { IfErr result (λ e. e.place ≤ end + 104) }
 {
     let (tag, rest) = u8_at(bytes, end)?;
     test(tag == b'I', 0)?;
@@ -99,6 +106,7 @@ fn marks(bytes: &[u8], end: usize) -> Result<(u32, Marks, &[u8]), BadRecord>
 #[tactic(auto, unfolding(crate::specs::Reading::places_at))]
 fn places(rest: &[u8], end: usize) -> Result<(u32, u64, u64, u64, &[u8]), BadRecord>
     ensures exact { Gives (λ x. (x.0, x.1, x.2, x.3, x.4.now)) result (places_at end rest.now) }
+    ensures place { IfErr result (λ e. e.place ≤ end + 104) }
 {
     let (node, rest) = u32_at(rest, end)?;
     test(node <= 2047, 69)?;
@@ -114,6 +122,7 @@ fn places(rest: &[u8], end: usize) -> Result<(u32, u64, u64, u64, &[u8]), BadRec
 #[tactic(auto, unfolding(crate::specs::Reading::counts_at))]
 fn counts(rest: &[u8], end: usize) -> Result<(u16, bool, u32, u32, &[u8]), BadRecord>
     ensures exact { Gives (λ x. (x.0, x.1, x.2, x.3, x.4.now)) result (counts_at end rest.now) }
+    ensures place { IfErr result (λ e. e.place ≤ end + 104) }
     ensures few { IfOk result (λ x. x.3 ≤ 131072) }
 {
     let (directive, rest) = u16_at(rest, end)?;
@@ -140,6 +149,7 @@ pub(crate) struct HeadView<'a> {
 #[tactic(auto, unfolding(crate::specs::Reading::head_at))]
 pub(crate) fn head(bytes: &[u8]) -> Result<HeadView<'_>, BadRecord>
     ensures exact { Gives (λ x. (record { whole = x.whole; fields = x.fields; count = x.count }, x.runs.now)) result (head_at bytes.now) }
+    ensures place { IfErr result (λ e. e.place ≤ length bytes.now + 104) }
     ensures few { IfOk result (λ x. x.count ≤ 131072) }
 {
     let end = bytes.len();

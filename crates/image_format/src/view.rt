@@ -1,5 +1,5 @@
 //! A record, seen in the bytes that it was read from.
-ghost use Rattle.std.specs.Prelude.{◌≡◌, ◌≤◌, ◌<◌, ◌^◌, ◌+◌, ◌*◌, ◌++◌, ℕ, length, List, [], ◌∷◌, Ok, IfOk, MatchOption};
+ghost use Rattle.std.specs.Prelude.{◌≡◌, ◌≤◌, ◌<◌, ◌^◌, ◌+◌, ◌*◌, ◌++◌, ℕ, length, List, [], ◌∷◌, Ok, IfOk, IfErr, MatchOption};
 ghost use Rattle.page_frames.specs.Words.{words_of};
 ghost use Rattle.image_format.specs.Image.{WordRun, Image, AreRuns, IsImage};
 ghost use Rattle.image_format.specs.Spelling.{IsFront, image_length};
@@ -26,6 +26,7 @@ pub struct RunView<'a> {
 fn run_of(rest: &[u8], end: usize, least: u32) -> Result<(RunView<'_>, &[u8]), BadRecord>
     requires within { length rest.now ≤ end }
     ensures exact { Gives (λ x. (record { first = x.0.first; words = words_of x.0.words.now x.0.count }, x.1.now)) result (run_at end least rest.now) }
+    ensures place { IfErr result (λ e. e.place ≤ end) }
     ensures fits { IfOk result (λ x. IsWithin least x.0.first x.0.count (length x.1.now) (length rest.now)) }
     ensures words { IfOk result (λ x. length x.0.words.now ≡ 8 * x.0.count) }
 {
@@ -53,6 +54,7 @@ fn run_of(rest: &[u8], end: usize, least: u32) -> Result<(RunView<'_>, &[u8]), B
 fn behind_runs(runs: &[u8], end: usize, count: u32) -> Result<&[u8], BadRecord>
     requires within { length runs.now ≤ end }
     ensures exact { Gives (λ x. x.now) result (rest_of (runs_at count end 0 runs.now)) }
+    ensures place { IfErr result (λ e. e.place ≤ end) }
     ensures within { IfOk result (λ x. length x.now ≤ length runs.now) }
 {
     let mut rest = runs;
@@ -95,6 +97,7 @@ impl<'a> Model for ImageView<'a> {
 /// Reads the record at the front of the bytes, whatever follows, or answers the place of the first field that breaks its rule.
 pub fn read_record(bytes: &[u8]) -> Result<ImageView<'_>, BadRecord>
     ensures exact { Gives (λ v. v) result (image_at bytes.now) }
+    ensures place { IfErr result (λ e. e.place ≤ length bytes.now + 104) }
     // What is read is spelled so.
     ensures found { IfOk result (λ v. IsImage v × IsFront v bytes.now) }
     // What is spelled so is read, whatever follows.
@@ -106,6 +109,7 @@ pub fn read_record(bytes: &[u8]) -> Result<ImageView<'_>, BadRecord>
 // The record at the front, field by field.
 fn read_front(bytes: &[u8]) -> Result<ImageView<'_>, BadRecord>
     ensures exact { Gives (λ v. v) result (image_at bytes.now) }
+    ensures place { IfErr result (λ e. e.place ≤ length bytes.now + 104) }
 {
     let end = bytes.len();
     let head = head(bytes)?;

@@ -1,4 +1,4 @@
-use Rattle.std.proofs.Common.{sym, ◌∙◌, arith}
+use Rattle.std.proofs.Common.{sym, arith}
 use Rattle.c_reader.proofs.Turns.{too_deep}
 use Rattle.c_reader.proofs.expressions.+expr.Goals as goal
 

@@ -1,0 +1,120 @@
+-- The joined content of records.
+use Rattle.std.proofs.Common.{◌≡◌, ◌≢◌, ◌⊎◌, inl, inr, ⊎_elim, refl, sym, ◌∙◌, ap, subst, ℕ, zero, suc, ◌+◌, ◌-◌, ◌*◌, ◌<◌, ◌≤◌, ◌==◌, nat_le, nat_lt, ◌&&◌, Bool, true, false, cond, List, [], ◌∷◌, ◌++◌, length, get_or, replicate, Option, Some, None, arith}
+use Rattle.std.specs.Prelude.{slice_index, slice_index_or, slice_get, if◌then◌else◌}
+use Rattle.std.specs.Option.{option_or}
+use Rattle.std.proofs.Math.ListN.{set}
+use Rattle.std.proofs.lemmas.Bool.{cases_lt, cases_eq}
+use Rattle.std.proofs.lemmas.Bool.Decides.{nat_tests}
+use Rattle.std.proofs.lemmas.List.{get_or-replicate, get_or_past, get_or-set_same, get_or-set_other, length-replicate}
+use Rattle.std.proofs.lemmas.Option.{slice_get_past, slice_get-get_or}
+use Rattle.page_frames.specs.Words.{eight, word_at, words_from, words_of}
+use Rattle.page_frames.proofs.Words.{length_words, get_words, word_eight}
+use Rattle.image_format.specs.Image.{WordRun, Image, AreRuns, word_in_run, word_in_runs}
+use Rattle.image_chain.specs.Memory.{memory, Joined, joined, kept_word}
+
+-- nothing is listed at first
+pub none_listed : (n : ℕ) (words : List ℕ) (listed : List Bool) (c : ℕ) → listed ≡ replicate n false → kept_word (joined words listed) c ≡ None
+none_listed n words listed c is =
+    let none : slice_index_or listed c false ≡ false = ap (λ (l : List Bool). slice_index_or l c false) is ∙ ⊎_elim (λ lt. get_or-replicate n c false false lt) (λ ge. get_or_past (replicate n false) c false (omega (arith, length-replicate n false))) (cases_lt c n) in
+    ap (λ (b : Bool). cond b (Some (slice_index words c)) None) none
+
+-- one cell more is listed
+one_listed : (words : List ℕ) (listed : List Bool) (at w c : ℕ) → at < length words → length listed ≡ length words → kept_word (joined (set words at w) (set listed at true)) c ≡ (if c == at then Some w else kept_word (joined words listed) c)
+one_listed words listed at w c lt same = ⊎_elim
+    (λ is. let t : (c == at) ≡ true = grind (arith, nat_tests) in
+    ap (λ (x : ℕ). kept_word (joined (set words at w) (set listed at true)) x) is
+    ∙ rw (get_or-set_same listed at true false (omega arith), get_or-set_same words at w 0 lt) (sym (ap (λ (b : Bool). cond b (Some w) (kept_word (joined words listed) c)) t)))
+    (λ is_not. let t : (c == at) ≡ false = grind (arith, nat_tests) in
+    rw (get_or-set_other listed at c true false is_not, get_or-set_other words at c w 0 is_not) (sym (ap (λ (b : Bool). cond b (Some w) (kept_word (joined words listed) c)) t)))
+    (cases_eq c at)
+
+-- whether a cell is among the first i cells of a run
+abbrev pub among : ℕ → ℕ → ℕ → Bool
+among first i c = nat_le first c && nat_lt c (first + i)
+
+pub none_yet : (first c : ℕ) (run old : Option ℕ) → old ≡ cond (among first 0 c) run old
+none_yet first c run old = let t : among first 0 c ≡ false = grind (arith, nat_tests) in sym (ap (λ (b : Bool). cond b run old) t)
+
+pub one_more_listed : (words : List ℕ) (listed : List Bool) (bytes : List ℕ) (first count i w c : ℕ) (old : Option ℕ) → i < count → first + count ≤ length words → length listed ≡ length words → w ≡ slice_index (words_of bytes count) i
+    → kept_word (joined words listed) c ≡ cond (among first i c) (Some (slice_index (words_of bytes count) (c - first))) old
+    → kept_word (joined (set words (first + i) w) (set listed (first + i) true)) c ≡ cond (among first (i + 1) c) (Some (slice_index (words_of bytes count) (c - first))) old
+one_more_listed words listed bytes first count i w c old lt within same is so_far =
+    one_listed words listed (first + i) w c (omega arith) same ∙ ⊎_elim
+    (λ here.
+    let t : (c == first + i) ≡ true = grind (arith, nat_tests) in
+    let u : among first (i + 1) c ≡ true = grind (arith, nat_tests) in
+    let e : c - first ≡ i = omega arith in
+    rw (t, u) (ap Some (is ∙ ap (slice_index (words_of bytes count)) (sym e))))
+    (λ elsewhere.
+    let t : (c == first + i) ≡ false = grind (arith, nat_tests) in
+    let u : among first (i + 1) c ≡ among first i c = same_test elsewhere in
+    ap (λ (b : Bool). cond b (Some w) (kept_word (joined words listed) c)) t ∙ so_far ∙ ap (λ (b : Bool). cond b (Some (slice_index (words_of bytes count) (c - first))) old) (sym u))
+    (cases_eq c (first + i))
+  where
+    same_test : c ≢ first + i → among first (i + 1) c ≡ among first i c
+    same_test elsewhere = ⊎_elim
+        (λ low. (let a : among first (i + 1) c ≡ false = grind (arith, nat_tests) in let b : among first i c ≡ false = grind (arith, nat_tests) in a ∙ sym b))
+        (λ high. ⊎_elim
+        (λ inside. (let a : among first (i + 1) c ≡ true = grind (arith, nat_tests) in let b : among first i c ≡ true = grind (arith, nat_tests) in a ∙ sym b))
+        (λ outside. (let a : among first (i + 1) c ≡ false = grind (arith, nat_tests) in let b : among first i c ≡ false = grind (arith, nat_tests) in a ∙ sym b))
+        (cases_lt c (first + i)))
+        (cases_lt c first)
+
+pub word_read : (bytes : List ℕ) (count i w : ℕ) → i < count → w ≡ word_at bytes (0 + i) → w ≡ slice_index (words_of bytes count) i
+word_read bytes count i w lt is = is ∙ sym (get_words bytes 0 count i lt)
+
+pub word_is : (bytes : List ℕ) (i w : ℕ) → w ≡ word_at bytes i → w ≡ word_at bytes (0 + i)
+word_is bytes i w is = let e : i ≡ 0 + i = omega arith in is ∙ ap (word_at bytes) e
+
+-- all cells of the run are listed
+pub run_listed : (bytes : List ℕ) (first count c : ℕ) (now old : Option ℕ) → now ≡ cond (among first count c) (Some (slice_index (words_of bytes count) (c - first))) old
+    → now ≡ option_or (word_in_run (record { first = first; words = words_of bytes count }) c) old
+run_listed bytes first count c now old is = is ∙ ⊎_elim
+    (λ low. let t : nat_le first c ≡ false = grind (arith, nat_tests) in rw t refl)
+    (λ high. let t : nat_le first c ≡ true = grind (arith, nat_tests) in ⊎_elim
+    (λ inside. let u : nat_lt c (first + count) ≡ true = grind (arith, nat_tests) in rw (t, u, slice_get-get_or (words_of bytes count) (c - first) 0 (omega (arith, length_words bytes 0 count))) refl)
+    (λ outside. let u : nat_lt c (first + count) ≡ false = grind (arith, nat_tests) in rw (t, u, slice_get_past (words_of bytes count) (c - first) (omega (arith, length_words bytes 0 count))) refl)
+    (cases_lt c (first + count)))
+    (cases_lt c first)
+
+-- ---- run after run
+
+no_word : (r : WordRun) (c : ℕ) → c < r.first → word_in_run r c ≡ None
+no_word r c lt = let t : nat_le r.first c ≡ false = grind (arith, nat_tests) in ap (λ (b : Bool). cond b (slice_get r.words (c - r.first)) None) t
+
+below_all : (low : ℕ) (rs : List WordRun) (c : ℕ) → AreRuns low rs → c < low → word_in_runs rs c ≡ None
+below_all low [] c are lt = refl
+below_all low (r ∷ rs) c are lt =
+    let rises = are.0.rises in
+    rw (no_word r c (omega arith), below_all (r.first + length r.words + 1) rs c are.1 (omega arith)) refl
+
+-- a cell of one run is in no later one
+pub next_run : (low : ℕ) (r : WordRun) (rs : List WordRun) (c : ℕ) (old new total : Option ℕ) → AreRuns low (r ∷ rs) → new ≡ option_or (word_in_run r c) old → option_or (word_in_runs (r ∷ rs) c) old ≡ total → option_or (word_in_runs rs c) new ≡ total
+next_run low r rs c old new total are is so_far = ap (option_or (word_in_runs rs c)) is ∙ turned ∙ so_far
+  where
+    turned : option_or (word_in_runs rs c) (option_or (word_in_run r c) old) ≡ option_or (option_or (word_in_run r c) (word_in_runs rs c)) old
+    turned = ⊎_elim
+        (λ before. rw (below_all (r.first + length r.words + 1) rs c are.1 (omega arith)) (joined_none (word_in_run r c)))
+        (λ after. ap (λ (o : Option ℕ). option_or (word_in_runs rs c) (option_or o old)) (past after) ∙ sym (ap (λ (o : Option ℕ). option_or (option_or o (word_in_runs rs c)) old) (past after)))
+        (cases_lt c (r.first + length r.words))
+      where
+        joined_none : (o : Option ℕ) → option_or o old ≡ option_or (option_or o None) old
+        joined_none None = refl
+        joined_none (Some x) = refl
+
+        past : r.first + length r.words ≤ c → word_in_run r c ≡ None
+        past le = let t : nat_le r.first c ≡ true = grind (arith, nat_tests) in ap (λ (b : Bool). cond b (slice_get r.words (c - r.first)) None) t ∙ slice_get_past r.words (c - r.first) (omega arith)
+
+-- ---- record after record
+
+pub memory_push : (rs : List Image) (r : Image) (c : ℕ) → memory (rs ++ r ∷ []) c ≡ option_or (word_in_runs r.runs c) (memory rs c)
+memory_push [] r c = none_behind (word_in_runs r.runs c)
+  where
+    none_behind : (o : Option ℕ) → option_or None o ≡ option_or o None
+    none_behind None = refl
+    none_behind (Some x) = refl
+memory_push (s ∷ rs) r c = ap (λ (o : Option ℕ). option_or o (word_in_runs s.runs c)) (memory_push rs r c) ∙ grouped (word_in_runs r.runs c) (memory rs c) (word_in_runs s.runs c)
+  where
+    grouped : (a b d : Option ℕ) → option_or (option_or a b) d ≡ option_or a (option_or b d)
+    grouped None b d = refl
+    grouped (Some x) b d = refl

@@ -1,0 +1,18 @@
+use Rattle.std.proofs.Common.{arith, refl, ◌<◌, ◌^◌, [], ◌∷◌}
+use Rattle.image_format.specs.declared.header.Header.{Header}
+use Rattle.image_format.specs.Image.{IsHeldHeader}
+use Rattle.image_chain.proofs.ListLaws.{Holds}
+use Rattle.image_chain.proofs.StartLaws.{start_moments, start_rest, started_keeps, new_header, holds_new}
+use Rattle.image_chain.proofs.chain.Chain.start.Goals as goal
+
+pub returns-in_err-start_file-clause-any_moment : goal.returns-in_err-start_file-clause-any_moment
+returns-in_err-start_file-clause-any_moment g c = λ tells none.
+    start_moments _ (new_header c.args.every c.args.max) c.start_file.result _ _ tells (g.met.D.Disk.lawful c.args.disk.now tells) c.start_file.ensures.answer (holds_new c.args.every c.args.max (omega arith) c.requires.every c.requires.least c.requires.most) c.write_header-header.ensures.answer none
+
+pub returns-clause-answer : goal.returns-clause-answer
+returns-clause-answer g c = λ tells none.
+    (refl, ([], start_rest _ _ c.start_file.result _ _ tells c.start_file.ensures.answer (c.in_ok-start_file.ensures.answer.does tells) refl (started_keeps _ (holds_new c.args.every c.args.max (omega arith) c.requires.every c.requires.least c.requires.most).header refl refl refl refl) c.write_header-header.ensures.answer none))
+
+pub returns-clause-any_moment : goal.returns-clause-any_moment
+returns-clause-any_moment g c = λ tells none.
+    start_moments _ (new_header c.args.every c.args.max) c.start_file.result _ _ tells (g.met.D.Disk.lawful c.args.disk.now tells) c.start_file.ensures.answer (holds_new c.args.every c.args.max (omega arith) c.requires.every c.requires.least c.requires.most) c.write_header-header.ensures.answer none

@@ -1,0 +1,60 @@
+-- How far the records of a file were read.
+use Rattle.std.specs.Prelude.{◌≡◌, ◌⊎◌, ℕ, ◌+◌, ◌-◌, ◌<◌, ◌≤◌, IsTrue, Bool, true, List, [], ◌∷◌, ◌++◌, length, take, slice_index, Option, Some, None, Result, Ok, Err}
+use Rattle.std.specs.List.{AllByRecursion}
+use Rattle.disk_model.specs.declared.disk_file.DiskFile.{DiskFile}
+use Rattle.disk_model.specs.Store.{Store}
+use Rattle.image_format.specs.declared.fields.Fields.{Fields}
+use Rattle.image_format.specs.declared.header.Header.{Header}
+use Rattle.image_format.specs.Image.{Image, IsImage, word_in_runs}
+use Rattle.image_format.specs.Spelling.{is_open, image_length}
+use Rattle.image_format.specs.Reading.{◌>>=◌}
+use Rattle.image_chain.specs.declared.chain.Chain.{Chain}
+use Rattle.image_chain.specs.declared.chain.Current.{Current}
+use Rattle.image_chain.specs.Records.{Damage, Found, records_at, newest_of, broken_field, chain_in}
+use Rattle.std.specs.Option.{option_or}
+use Rattle.image_chain.specs.declared.fault.ChainFault.{ChainFault}
+use Rattle.image_chain.specs.declared.fault.ChainFault.TheVariants.{Failed, Damaged}
+use Rattle.image_chain.specs.Memory.{Joined, memory, kept_word}
+use Rattle.image_chain.specs.Append.{header_of, front, chained_length, AreInOrder}
+use Rattle.image_chain.specs.Lists.{found_of}
+
+-- what was read before, and what is still read
+abbrev pub with_front : List Image → Result (List Image) Damage → Result (List Image) Damage
+with_front rs read = read >>= λ more. Ok (rs ++ more)
+
+-- These records of the file were read, and are kept: what is left gives the rest of all its records.
+pub record Walked (current : Current) (kept : Joined) (rs : List Image) (file : List ℕ) : Type 0 where
+  pub images : AllByRecursion IsImage rs
+  pub order : AreInOrder None rs
+  pub count : current.count ≡ length rs
+  pub newest : current.newest ≡ newest_of None rs
+  pub gate : current.gate ≡ 15 + chained_length rs
+  pub newest_at : (before : List Image) (r : Image) → rs ≡ before ++ r ∷ [] → current.newest_at ≡ 16 + chained_length before
+  pub text : take current.gate file ≡ front current rs
+  pub inside : current.gate < length file
+  pub words : (c : ℕ) → kept_word kept c ≡ memory rs c
+  pub total : with_front rs (records_at (current.max - current.count) current.file file current.newest current.gate) ≡ records_at current.max current.file file None 15
+
+-- the chain that was opened, as the definition has it
+abbrev pub opened_as : Option Chain → List Image → Option Found
+opened_as None rs = None
+opened_as (Some chain) rs = found_of chain.current.file (header_of chain.current) rs
+
+-- What is kept of a record that follows those before it.
+pub record Accepted (old new : Current) (kept now : Joined) (image : Image) : Type 0 where
+  pub room : old.count < old.max
+  pub order : broken_field old.newest image.fields ≡ None
+  pub file : new.file ≡ old.file
+  pub header : header_of new ≡ header_of old
+  pub count : new.count ≡ old.count + 1
+  pub newest : new.newest ≡ Some image.fields
+  pub newest_at : new.newest_at ≡ old.gate + 1
+  pub gate : new.gate ≡ old.gate + image_length image
+  pub words : (c : ℕ) → kept_word now c ≡ option_or (word_in_runs image.runs c) (kept_word kept c)
+
+-- The damage of a record that does not: it is one too many, or a field breaks the order.
+abbrev pub IsRefused : ChainFault → Current → Image → Type 0
+IsRefused Failed old image = ⊥
+IsRefused (Damaged file place) old image =
+    (file ≡ old.file) × (((old.count ≡ old.max) × (place ≡ old.gate))
+    ⊎ ((old.count < old.max) × ((field : ℕ) × (broken_field old.newest image.fields ≡ Some field) × (place ≡ old.gate + 1 + field))))

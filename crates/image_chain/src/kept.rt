@@ -1,0 +1,107 @@
+//! The joined content of a chain.
+ghost use Rattle.std.specs.Prelude.{◌≡◌, ◌<◌, ◌≤◌, ◌+◌, ◌*◌, ℕ, length, slice_index, IfOk, None};
+ghost use Rattle.std.specs.Option.{option_or};
+ghost use Rattle.std.specs.Int.{w64, from_be_bytes};
+ghost use Rattle.page_frames.specs.Words.{eight, words_of};
+ghost use Rattle.image_format.specs.Image.{word_in_run, word_in_runs};
+ghost use Rattle.image_chain.specs.Memory.{joined, kept_word};
+
+use ckpt_base::NoMemory;
+use image_format::ImageView;
+use std::alloc::Global;
+use std::marker::Model;
+
+/// How many cells a chain can list.
+const CELLS: usize = 262_144;
+
+/// The joined content of a chain: a word or nothing for each of 262,144 cells. Contracts see the words, and which cells are listed.
+#[derive(Drop)]
+pub struct Kept {
+    words: Vec<u64>,
+    listed: Vec<bool>,
+}
+
+impl Model for Kept {
+    ghost use Rattle.std.specs.Prelude.{◌≡◌, vec_len};
+    ghost use Rattle.image_chain.specs.Memory.{Joined};
+
+    ghost Value = { Joined };
+
+    ghost view = { λ k. record { words = k.words.items; listed = k.listed.items } };
+
+    ghost invariant = { λ k. (vec_len k.words ≡ 262144) × (vec_len k.listed ≡ 262144) };
+}
+
+impl Kept {
+    /// Lists no cell.
+    pub fn new(alloc: Global) -> Result<Kept, NoMemory>
+        ensures answer { IfOk result (λ k. (c : ℕ) → kept_word k c ≡ None) }
+    {
+        Ok(Kept {
+            words: vec![in alloc; 0; CELLS]?,
+            listed: vec![in alloc; false; CELLS]?,
+        })
+    }
+
+    /// The word of a cell, or none where the cell is not listed.
+    pub fn word(&self, c: u32) -> Option<u64>
+        requires cell { c < 262144 }
+        ensures answer { result ≡ kept_word self.now c }
+    {
+        if self.listed[c as usize] {
+            Some(self.words[c as usize])
+        } else {
+            None
+        }
+    }
+
+    /// Lists the cells of the record with its words, and leaves the others.
+    pub fn add(&mut self, view: &ImageView<'_>)
+        ensures answer { (c : ℕ) → kept_word self.new c ≡ option_or (word_in_runs view.now.runs c) (kept_word self.old c) }
+    {
+        add_runs(self.words.as_mut_slice(), self.listed.as_mut_slice(), view);
+    }
+}
+
+fn add_runs(words: &mut [u64], listed: &mut [bool], view: &ImageView<'_>)
+    requires words { length words.old ≡ 262144 }
+    requires listed { length listed.old ≡ 262144 }
+    ensures { (c : ℕ) → kept_word (joined words.new listed.new) c ≡ option_or (word_in_runs view.now.runs c) (kept_word (joined words.old listed.old) c) }
+{
+    for run in view.runs() {
+        add_run(words, listed, run.first, run.count, run.words);
+    }
+}
+
+fn add_run(words: &mut [u64], listed: &mut [bool], first: u32, count: u32, bytes: &[u8])
+    requires words { first + count ≤ length words.old }
+    requires listed { length listed.old ≡ length words.old }
+    requires bytes { length bytes.now ≡ 8 * count }
+    requires bound { first + count ≤ 262144 }
+    ensures { (c : ℕ) → kept_word (joined words.new listed.new) c
+        ≡ option_or (word_in_run (record { first = first; words = words_of bytes.now count }) c) (kept_word (joined words.old listed.old) c) }
+{
+    for i in 0..count as usize {
+        let cell = first as usize + i;
+        words[cell] = word_of(bytes, i);
+        listed[cell] = true;
+    }
+}
+
+// The word of the eight bytes of cell i.
+fn word_of(bytes: &[u8], i: usize) -> u64
+    requires { 8 * i + 8 ≤ length bytes.now }
+    ensures { result ≡ from_be_bytes w64 (eight bytes.now (i * 8)) }
+{
+    let at = i * 8;
+    u64::from_be_bytes([
+        bytes[at],
+        bytes[at + 1],
+        bytes[at + 2],
+        bytes[at + 3],
+        bytes[at + 4],
+        bytes[at + 5],
+        bytes[at + 6],
+        bytes[at + 7],
+    ])
+}
