@@ -17,6 +17,7 @@ impl Chain {
     /// How many records there are.
     pub fn count(&self) -> u16
         ensures answer { result ≡ self.now.current.count }
+        ensures most { result ≤ self.now.current.max }
     {
         self.current.count
     }
@@ -38,6 +39,7 @@ impl Chain {
     /// How many records the file holds at most.
     pub fn max(&self) -> u16
         ensures answer { result ≡ self.now.current.max }
+        ensures most { result ≤ 64 }
     {
         self.current.max
     }
