@@ -12,3 +12,5 @@ pub mod KeptLaws
 pub mod LookLaws
 -- the records of a file, one after another
 pub mod WalkLaws
+-- the chain that is opened
+pub mod OpenLaws

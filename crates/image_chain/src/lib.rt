@@ -12,6 +12,7 @@ mod fault;
 mod kept;
 mod look;
 mod open;
+mod record;
 mod room;
 mod start;
 
