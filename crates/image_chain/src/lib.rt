@@ -15,6 +15,8 @@ mod open;
 mod record;
 mod room;
 mod start;
+#[cfg(test)]
+mod tests;
 
 pub use chain::{Chain, Step};
 pub use fault::ChainFault;
