@@ -9,3 +9,4 @@ pub mod KeptLaws
 pub mod Making
 pub mod RuleLaws
 pub mod Composed
+pub mod Fused

@@ -18,3 +18,5 @@ pub mod Places
 pub mod Statements
 -- what the parts of a body keep
 pub mod Kept
+-- directives outside `main`, and calls of `main`
+pub mod Directives

@@ -3,6 +3,7 @@
 
 mod calls;
 mod declarations;
+mod directives;
 mod expressions;
 mod fault;
 mod file;
@@ -14,6 +15,7 @@ mod names;
 mod places;
 mod scope;
 mod single;
+mod statements;
 mod types;
 
 pub use fault::CheckFault;
