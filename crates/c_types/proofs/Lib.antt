@@ -10,3 +10,5 @@ pub mod Making
 pub mod RuleLaws
 pub mod Composed
 pub mod Fused
+pub mod BodyLaws
+pub mod TreeLaws

@@ -11,7 +11,6 @@ use Rattle.c_tree.specs.declared.tree.Stmt.TheOpen.{Stmt-F, Arm-F}
 use Rattle.c_tree.specs.declared.tree.Stmt.TheFolds.{fold-Stmt, fold-Arm}
 use Rattle.c_tree.specs.declared.tree.Item.{Item}
 use Rattle.c_tree.specs.declared.tree.Item.TheVariants as item
-use Rattle.c_tree.specs.declared.tree.Program.{Program}
 use Rattle.c_types.specs.declared.fault.CheckFault.TheVariants.{DirectiveOutsideMain, CallsMain}
 use Rattle.c_types.specs.Faults.{Faults, unless}
 
@@ -82,5 +81,5 @@ item_faults (item.Function f) = all (map (stmt false) f.body)
 item_faults (item.Main k ss) = all (map (stmt true) ss)
 
 -- the faults of a program's directives, in the order of the text
-abbrev pub directive_faults : Program → Faults
-directive_faults p = all (map item_faults p.items)
+abbrev pub directive_faults : List Item → Faults
+directive_faults is = all (map item_faults is)

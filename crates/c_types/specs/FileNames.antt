@@ -16,7 +16,6 @@ use Rattle.c_tree.specs.declared.tree.Parameter.{Parameter}
 use Rattle.c_tree.specs.declared.tree.Function.{Function}
 use Rattle.c_tree.specs.declared.tree.Item.{Item}
 use Rattle.c_tree.specs.declared.tree.Item.TheVariants as item
-use Rattle.c_tree.specs.declared.tree.Program.{Program}
 use Rattle.c_types.specs.declared.fault.CheckFault.TheVariants.{Unknown, NoMain}
 use Rattle.c_types.specs.declared.file.Meaning.{Meaning}
 use Rattle.c_types.specs.declared.file.Meaning.TheVariants as meaning
@@ -150,13 +149,5 @@ with_functions file n (item.Function f ∷ is) = with_functions (with_function f
 with_functions file n (item.Main k ss ∷ is) = with_functions file n is
 
 -- where a text begins
-abbrev pub start : Program → Known
-start p = record { file = with_functions no_file 0 p.items; scope = entry }
-
--- the faults of a program's names, in the order of the text
-abbrev pub name_faults : Program → Faults
-name_faults p = (items_step p.constants p.items).faults (start p)
-
--- what is known at the end of a text
-abbrev pub file_of : Program → File
-file_of p = ((items_step p.constants p.items).after (start p)).file
+abbrev pub start : List Item → Known
+start is = record { file = with_functions no_file 0 is; scope = entry }

@@ -20,3 +20,9 @@ pub mod Statements
 pub mod Kept
 -- directives outside `main`, and calls of `main`
 pub mod Directives
+-- what the items of a file become
+pub mod Bodies
+-- what they keep
+pub mod BodiesKept
+-- the four passes
+pub mod Check

@@ -1,6 +1,7 @@
 //! The rules that a program keeps, and its resolved tree.
 #![tactic(auto)]
 
+mod bodies;
 mod calls;
 mod declarations;
 mod directives;
@@ -9,6 +10,7 @@ mod fault;
 mod file;
 mod heads;
 mod known;
+mod limits;
 mod named_items;
 mod named_statements;
 mod names;
