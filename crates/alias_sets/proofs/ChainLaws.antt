@@ -1,5 +1,5 @@
 -- Chains of flows are paths of the graph.
-use Rattle.std.proofs.Common.{◌≡◌, ℕ, ◌+◌, ◌<◌, ◌≤◌, ◌↔◌, true, false, List, [], ◌∷◌, length, Some, slice_get, get_or, Contains, Result, IfOk, Vec, Global, refl, sym, ap, subst, ◌∙◌, arith}
+use Rattle.std.proofs.Common.{◌≡◌, ℕ, ◌↔◌, true, false, List, [], ◌∷◌, length, Some, slice_get, get_or, Contains, Result, IfOk, Vec, Global, refl, sym, ap, ◌∙◌, arith}
 use Rattle.std.proofs.lemmas.Option.{same_Some, slice_get_within}
 use Rattle.std.proofs.lemmas.Result.{IfOk-weaker}
 use Rattle.std.proofs.lemmas.List.{get_or_read}
@@ -10,7 +10,7 @@ use Rattle.alias_sets.specs.declared.flows.Source.{Source}
 use Rattle.alias_sets.specs.declared.flows.Source.TheVariants as source'
 use Rattle.alias_sets.specs.declared.flows.Flow.{Flow}
 use Rattle.alias_sets.specs.Numbers.{IsNumber, AreApart, AllNumbered}
-use Rattle.alias_sets.specs.Nodes.{IsEdgeOf, IsGoalOf, AreEdgesBelow, AreGoalsBelow}
+use Rattle.alias_sets.specs.Nodes.{AreEdgesBelow, AreGoalsBelow}
 use Rattle.alias_sets.specs.Points.{HasFlow, IsChain, PointsView, Holds}
 
 -- two variables of one number are one

@@ -10,7 +10,7 @@ use crate::flows::{Flow, PointerVar};
 use crate::nodes::{edges_of, empty_rows, goals_of, width_of};
 use crate::numbering::{number_of, variables_of};
 use crate::statements::flows_of;
-use c_tree::{Checked, Resolved};
+use c_tree::Checked;
 use cell_sets::BitRow;
 use ckpt_base::NoMemory;
 use indexmap::IndexSet;
@@ -112,13 +112,12 @@ fn rows_of(
     Ok(rows)
 }
 
-/// Finds for each variable of a tree the objects that it may hold.
-pub(crate) fn points_of(alloc: Global, tree: &Resolved) -> Result<Points, NoMemory>
-    ensures answer { IfOk result (λ points. ArePointsOf tree.now points) }
+/// Finds for each variable the objects from whose address a chain of the flows leads to it.
+pub(crate) fn solve(alloc: Global, flows: &[Flow]) -> Result<Points, NoMemory>
+    ensures answer { IfOk result (λ points. AreChains flows.now points) }
 {
-    let flows = flows_of(alloc, tree)?;
-    let variables = variables_of(alloc, flows.as_slice())?;
-    let rows = rows_of(alloc, &variables, flows.as_slice())?;
+    let variables = variables_of(alloc, flows)?;
+    let rows = rows_of(alloc, &variables, flows)?;
     Ok(Points { variables, rows })
 }
 
@@ -126,5 +125,6 @@ pub(crate) fn points_of(alloc: Global, tree: &Resolved) -> Result<Points, NoMemo
 pub fn find_points(alloc: Global, program: &Checked) -> Result<Points, NoMemory>
     ensures answer { IfOk result (λ points. ArePointsOf program.now points) }
 {
-    points_of(alloc, program.tree())
+    let flows = flows_of(alloc, program.tree())?;
+    solve(alloc, flows.as_slice())
 }

@@ -1,5 +1,5 @@
 -- The loops of the reader of statements.
-use Rattle.std.proofs.Common.{◌≡◌, ◌≢◌, ℕ, zero, suc, ◌-◌, ◌<◌, ◌≤◌, List, [], ◌∷◌, ◌++◌, length, Option, Some, None, refl, sym, ap, ◌∙◌, arith, Bool}
+use Rattle.std.proofs.Common.{◌≡◌, ◌≢◌, ℕ, zero, suc, ◌-◌, ◌<◌, ◌≤◌, List, [], ◌∷◌, ◌++◌, length, Option, Some, None, refl, sym, ap, ◌∙◌, arith, Bool, true}
 use Rattle.c_tree.specs.declared.token.Token.{Token}
 use Rattle.c_tree.specs.declared.token.Word.TheVariants as word
 use Rattle.c_tree.specs.declared.tree.Arm.{Arm}
@@ -8,8 +8,11 @@ use Rattle.c_tree.specs.declared.tree.Stmt.TheVariants as stmt'
 use Rattle.c_reader.specs.declared.look.Fault.{Fault}
 use Rattle.c_reader.specs.declared.look.Fault.TheVariants.{Memory, Unexpected}
 use Rattle.c_reader.specs.Gives.{Fails}
-use Rattle.c_reader.specs.Reading.{Got, got, Read, ◌>>=◌, after}
-use Rattle.c_reader.specs.ReadingStatements.{entry, block_turn, block, arm, last_arm, chain_on, chain, statement, stmt_within}
+use Rattle.c_reader.specs.Reading.{Got, got, Read, ◌>>=◌, after, tail}
+use Rattle.c_tree.specs.Statements.{first_line}
+use Rattle.c_reader.specs.declared.singles.Start.{Start}
+use Rattle.c_reader.specs.declared.singles.Start.TheVariants as start'
+use Rattle.c_reader.specs.ReadingStatements.{condition, head, start, holds_other, statement_of, entry, block_turn, block, arm, last_arm, chain_on, chain, statement, stmt_within}
 use Rattle.c_reader.proofs.TokenKinds.{after_is}
 use Rattle.c_reader.proofs.StatementSound.{entry_takes, arm_takes}
 
@@ -21,6 +24,34 @@ pub stmt_some : (d : ℕ) (b : Bool) (ts : List Token) → d ≢ 0 → stmt_with
 unfolding stmt_within
 stmt_some zero b ts h = absurd (h refl)
 stmt_some (suc d) b ts h = let e : suc d - 1 ≡ d = omega arith in rw e refl
+
+-- ---- at the bound
+
+bind_none : {A B : Type 0} (o : Option A) (f : A → Option B) → ((x : A) → f x ≡ None) → (o >>= f) ≡ None
+bind_none None f h = refl
+bind_none (Some x) f h = h x
+
+no_deeper : {A : Type 0} (b : Bool) (ts : List Token) (f : Got Stmt → Option A) → (stmt_within 0 b ts >>= f) ≡ None
+unfolding stmt_within
+no_deeper b ts f = refl
+
+arm_at_bound : (b : Bool) (ts : List Token) → arm 0 (stmt_within 0) b ts ≡ None
+arm_at_bound b ts = bind_none (condition 0 ts) _ (λ x. no_deeper b x.rest _)
+
+chain_at_bound : (b : Bool) (l n : ℕ) (xs : List Arm) (ts : List Token) → chain 0 (stmt_within 0) b l n xs ts ≡ None
+chain_at_bound b l zero xs ts = refl
+chain_at_bound b l (suc n) xs ts = ap (λ o. o >>= (λ a. chain_on (stmt_within 0) b l (chain 0 (stmt_within 0) b l n) (xs ++ a.value ∷ []) a.rest (after word.Else a.rest))) (arm_at_bound b ts)
+
+at_bound : (b : Bool) (l : ℕ) (st : Start) (ts : List Token) → holds_other st ≡ true → statement_of 0 (stmt_within 0) b l st ts ≡ None
+at_bound b l start'.If ts h = chain_at_bound b l (length (tail ts)) [] (tail ts)
+at_bound b l start'.While ts h = bind_none (condition 0 (tail ts)) _ (λ x. no_deeper true x.rest _)
+at_bound b l start'.Do ts h = no_deeper true (tail ts) _
+at_bound b l start'.For ts h = bind_none (head 0 (tail ts)) _ (λ x. no_deeper true x.rest _)
+at_bound b l _ ts h = absurd cc
+
+-- a statement that holds another is deeper than the bound
+pub no_room : (d : ℕ) (b : Bool) (st : Start) (ts : List Token) → d ≡ 0 → st ≡ start ts → holds_other st ≡ true → statement d (stmt_within d) b ts ≡ None
+no_room d b st ts z e h = ap (λ n. statement n (stmt_within n) b ts) z ∙ at_bound b (first_line ts) (start ts) ts (ap holds_other (sym e) ∙ h)
 
 -- ---- blocks
 

@@ -276,6 +276,14 @@ statement_of d deeper in_loop l start'.Do ts = do_loop d deeper l (tail ts)
 statement_of d deeper in_loop l start'.For ts = for_loop d deeper l (tail ts)
 statement_of d deeper in_loop l st ts = ended d in_loop l st ts
 
+-- such a statement holds another
+abbrev pub holds_other : Start → Bool
+holds_other start'.If = true
+holds_other start'.While = true
+holds_other start'.Do = true
+holds_other start'.For = true
+holds_other _ = false
+
 abbrev pub statement : ℕ → Deeper → Deeper
 statement d deeper in_loop ts = statement_of d deeper in_loop (first_line ts) (start ts) ts
 

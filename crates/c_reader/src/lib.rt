@@ -28,3 +28,6 @@ mod words;
 
 pub use fault::ReadFault;
 pub use reader::read;
+
+#[cfg(test)]
+mod tests;

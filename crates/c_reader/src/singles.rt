@@ -81,6 +81,16 @@ pub fn start_at(tokens: &[Token]) -> Start
     }
 }
 
+/// Whether such a statement holds another.
+pub fn holds_other(start: Start) -> bool
+    ensures answer { result ≡ spec.holds_other start }
+{
+    match start {
+        Start::If | Start::While | Start::Do | Start::For => true,
+        _ => false,
+    }
+}
+
 /// The line of the token in front, and 0 where there is none.
 pub fn first_line(tokens: &[Token]) -> u32
     ensures answer { result ≡ spelling.first_line tokens.now }
@@ -114,6 +124,9 @@ fn printed(alloc: Global, tokens: &[Token], depth: usize) -> Result<(Items<Expr>
             Ok((Items::new(alloc), rest))
         }
         Some(after) => {
+            if depth == 0 {
+                return Err(Fault::Unexpected(tokens.len()));
+            }
             let (values, closes) = values_below(alloc, after, depth)?;
             let rest = expect(closes, Word::RParen)?;
             Ok((values, rest))

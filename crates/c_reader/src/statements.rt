@@ -9,7 +9,7 @@ ghost use Rattle.c_reader.specs.ReadingStatements as spec;
 use crate::assignments::{condition, for_head};
 use crate::locals::declaration_below;
 use crate::look::{Fault, expect, skip, tail};
-use crate::singles::{Start, ended, first_line, start_at};
+use crate::singles::{Start, ended, first_line, holds_other, start_at};
 use c_tree::{Arm, Stmt, Token, Word};
 use sqlite_items::{Boxed, Items};
 use std::alloc::Global;
@@ -205,6 +205,7 @@ fn inner_block(
 
 /// A statement whose parts are within the depth.
 #[cycle(stmt)]
+#[tactic(auto, using(crate::proofs::StatementTurns::no_room))]
 fn statement(
     alloc: Global,
     tokens: &[Token],
@@ -214,7 +215,11 @@ fn statement(
     ensures answer { Gives (λ x. reading.got x.0 x.1.now) result (spec.statement depth (spec.stmt_within depth) in_loop tokens.now) }
 {
     let line = first_line(tokens);
-    match start_at(tokens) {
+    let begins = start_at(tokens);
+    if depth == 0 && holds_other(begins) {
+        return Err(Fault::Unexpected(tokens.len()));
+    }
+    match begins {
         Start::Block => inner_block(alloc, tokens, depth, in_loop, line),
         Start::If => chain(alloc, tail(tokens), depth, in_loop, line),
         Start::While => while_loop(alloc, tail(tokens), depth, line),

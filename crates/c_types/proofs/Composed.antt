@@ -13,11 +13,11 @@ use Rattle.c_types.specs.declared.fault.CheckFault.{CheckFault}
 use Rattle.c_types.specs.declared.types.Frame.{Frame}
 use Rattle.c_types.specs.File.{File}
 use Rattle.c_types.specs.Fitting.{Fits}
-use Rattle.c_types.specs.Kept.{Marks, Kept}
+use Rattle.c_types.specs.Kept.{Marks, Kept, arm_keeps, last_keeps, last_excludes}
 use Rattle.c_types.specs.Statements.{arm_of}
 use Rattle.c_types.proofs.Tests.{and_true}
 use Rattle.c_types.proofs.KeptLaws.{kept_single, kept_join, kept_as}
-use Rattle.c_types.proofs.RuleLaws.{arm_keeps, block_rules, while_rules, do_rules, for_rules, if_rules, last_keeps, block_excludes, while_excludes, do_excludes, for_excludes, if_excludes, last_excludes, arm_rules, arm_excludes_of}
+use Rattle.c_types.proofs.RuleLaws.{block_rules, while_rules, do_rules, for_rules, if_rules, block_excludes, while_excludes, do_excludes, for_excludes, if_excludes, arm_rules, arm_excludes_of}
 
 module _ (file : File) (frame : Frame) where
   -- a statement that makes nothing known

@@ -9,3 +9,6 @@ pub mod KeptLaws
 pub mod Making
 pub mod RuleLaws
 pub mod Composed
+pub mod Fused
+pub mod BodyLaws
+pub mod TreeLaws

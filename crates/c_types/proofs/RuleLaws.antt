@@ -8,23 +8,15 @@ use Rattle.c_tree.specs.declared.resolved.RArm.{RArm}
 use Rattle.c_tree.specs.declared.resolved.RStmt.{RStmt}
 use Rattle.c_tree.specs.declared.resolved.RStmt.TheVariants as s
 use Rattle.c_tree.specs.declared.resolved.RStmt.TheOpen.{RStmt-F, RArm-F}
-use Rattle.c_tree.specs.declared.resolved.RStmt.TheFolds.{fold-roll-RStmt, fold-roll-RArm, fold-RArm}
+use Rattle.c_tree.specs.declared.resolved.RStmt.TheFolds.{fold-roll-RStmt, fold-roll-RArm}
 use Rattle.c_tree.specs.Kinds.{World, keeps_rules, keeps_rules_at, arm_keeps_rules_at, is_number, is_test, begins, updates}
 use Rattle.c_types.specs.Statements.{arm_of}
+use Rattle.c_types.specs.Kept.{arm_keeps, last_keeps, last_excludes}
 use Rattle.c_tree.specs.Excludes.{excludes, excludes_at, arm_excludes_at, arm_excludes}
-
--- whether an arm keeps the rules
-abbrev pub arm_keeps : World → RArm → Bool → Bool
-arm_keeps w = fold-RArm (Bool → Bool) (Bool → Bool) (keeps_rules_at w) (arm_keeps_rules_at w)
 
 pub all_map : {X : Type 0} (f : X → Bool → Bool) (b : Bool) (xs : List X) → list_all (λ g. g b) (map f xs) ≡ list_all (λ x. f x b) xs
 all_map f b [] = refl
 all_map f b (x ∷ xs) = ap (λ c. f x b && c) (all_map f b xs)
-
--- the last statement of an `if`
-abbrev pub last_keeps : World → Bool → Option RStmt → Bool
-last_keeps w in_loop None = true
-last_keeps w in_loop (Some r) = keeps_rules w r in_loop
 
 module _ (w : World) (in_loop : Bool) where
   pub block_rules : (rs : List RStmt) → keeps_rules w (s.Block rs) in_loop ≡ list_all (λ r. keeps_rules w r in_loop) rs
@@ -62,11 +54,6 @@ do_excludes x r = ap excludes (sym (s.rolls-Do r x)) ∙ fold-roll-RStmt (List �
 
 pub for_excludes : (i : Option RInit) (x : Option RExpr) (u : Option RAssign) (r : RStmt) → excludes (s.For i x u r) ≡ excludes r
 for_excludes i x u r = ap excludes (sym (s.rolls-For i x u r)) ∙ fold-roll-RStmt (List ℕ) (List ℕ) excludes_at arm_excludes_at (RStmt-F.For i x u r)
-
--- the directives of the last statement of an `if`
-abbrev pub last_excludes : Option RStmt → List ℕ
-last_excludes None = []
-last_excludes (Some r) = excludes r
 
 pub if_excludes : (as' : List RArm) (last : Option RStmt) → excludes (s.If as' last) ≡ concat (map arm_excludes as') ++ last_excludes last
 if_excludes as' None = ap excludes (sym (s.rolls-If as' None)) ∙ fold-roll-RStmt (List ℕ) (List ℕ) excludes_at arm_excludes_at (RStmt-F.If as' None) ∙ sym (append-nil (concat (map arm_excludes as')))

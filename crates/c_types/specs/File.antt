@@ -60,12 +60,13 @@ abbrev pub with_object : File → Text → ObjectKind → ℕ → ℤ → File
 with_object file name kind len first =
     with_cells_of (with_name file name (meaning.Object (length file.objects))) (record { name = name; kind = kind; length = len; first = first; cell = cell_number file.cells })
 
--- with one more function
-abbrev pub with_function : File → Text → Signature → File
-with_function file name s = record file {
-  functions = insert_entry same file.functions name (length file.signatures);
-  signatures = file.signatures ++ s ∷ [];
-}
+-- with one more function, by its number
+abbrev pub with_function : File → Text → ℕ → File
+with_function file name number = record file { functions = insert_entry same file.functions name number }
+
+-- with what its functions take and answer
+abbrev pub with_signatures : File → List Signature → File
+with_signatures file ss = record file { signatures = ss }
 
 -- the objects stand one after the other from a cell on, up to another
 abbrev pub StandBetween : ℕ → List FileObject → ℕ → Type 0

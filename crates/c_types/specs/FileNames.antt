@@ -1,5 +1,5 @@
 -- Which names of a file break a rule, in the order of the text (C99 6.9).
-use Rattle.std.specs.Prelude.{ℕ, ℤ, pos, negsuc, neg_ℤ, Bool, true, false, not, ◌||◌, if◌then◌else◌, List, [], ◌∷◌, ◌++◌, map, length, codes, Option, Some, None, is_some}
+use Rattle.std.specs.Prelude.{ℕ, ◌+◌, ℤ, pos, negsuc, neg_ℤ, Bool, true, false, not, ◌||◌, if◌then◌else◌, List, [], ◌∷◌, ◌++◌, map, length, codes, Option, Some, None, is_some}
 use Rattle.std.specs.List.{list_any}
 use Rattle.std.specs.Int.{w64, int_wrapping_neg}
 use Rattle.c_tree.specs.declared.resolved.ObjectKind.{ObjectKind}
@@ -16,7 +16,6 @@ use Rattle.c_tree.specs.declared.tree.Parameter.{Parameter}
 use Rattle.c_tree.specs.declared.tree.Function.{Function}
 use Rattle.c_tree.specs.declared.tree.Item.{Item}
 use Rattle.c_tree.specs.declared.tree.Item.TheVariants as item
-use Rattle.c_tree.specs.declared.tree.Program.{Program}
 use Rattle.c_types.specs.declared.fault.CheckFault.TheVariants.{Unknown, NoMain}
 use Rattle.c_types.specs.declared.file.Meaning.{Meaning}
 use Rattle.c_types.specs.declared.file.Meaning.TheVariants as meaning
@@ -133,25 +132,22 @@ module _ (constants : List Constant) where
 abbrev pub signature : Function → Signature
 signature f = record { parameters = map (λ p. p.is_pointer) f.parameters; gives_pointer = f.gives_pointer }
 
-abbrev pub with_function_of : File → Item → File
-with_function_of file (item.Objects l ds) = file
-with_function_of file item.Prototype = file
-with_function_of file (item.Function f) = with_function file f.name.text (signature f)
-with_function_of file (item.Main k ss) = file
+-- what the functions take and answer, in order
+abbrev pub signatures_of : List Item → List Signature
+signatures_of [] = []
+signatures_of (item.Objects l ds ∷ is) = signatures_of is
+signatures_of (item.Prototype ∷ is) = signatures_of is
+signatures_of (item.Function f ∷ is) = signature f ∷ signatures_of is
+signatures_of (item.Main k ss ∷ is) = signatures_of is
 
--- functions are known in the whole file
-abbrev pub with_functions : File → List Item → File
-with_functions file [] = file
-with_functions file (i ∷ is) = with_functions (with_function_of file i) is
+-- functions are known in the whole file, by their numbers in order
+abbrev pub with_functions : File → ℕ → List Item → File
+with_functions file n [] = file
+with_functions file n (item.Objects l ds ∷ is) = with_functions file n is
+with_functions file n (item.Prototype ∷ is) = with_functions file n is
+with_functions file n (item.Function f ∷ is) = with_functions (with_function file f.name.text n) (n + 1) is
+with_functions file n (item.Main k ss ∷ is) = with_functions file n is
 
 -- where a text begins
-abbrev pub start : Program → Known
-start p = record { file = with_functions no_file p.items; scope = entry }
-
--- the faults of a program's names, in the order of the text
-abbrev pub name_faults : Program → Faults
-name_faults p = (items_step p.constants p.items).faults (start p)
-
--- what is known at the end of a text
-abbrev pub file_of : Program → File
-file_of p = ((items_step p.constants p.items).after (start p)).file
+abbrev pub start : List Item → Known
+start is = record { file = with_functions no_file 0 is; scope = entry }

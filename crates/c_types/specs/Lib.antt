@@ -18,3 +18,11 @@ pub mod Places
 pub mod Statements
 -- what the parts of a body keep
 pub mod Kept
+-- directives outside `main`, and calls of `main`
+pub mod Directives
+-- what the items of a file become
+pub mod Bodies
+-- what they keep
+pub mod BodiesKept
+-- the four passes
+pub mod Check

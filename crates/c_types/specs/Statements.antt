@@ -135,6 +135,9 @@ Body = Bool → Part RStmt
 abbrev pub arm_of : RExpr → RStmt → RArm
 arm_of x r = roll-RArm (record { test = x; body = r })
 
+unfoldable pub block_part : List Body → Bool → Part RStmt
+block_part ps in_loop = inside (becomes (all (map (λ p. p in_loop) ps)) (λ rs. s.Block rs))
+
 -- an arm: its test, and its body
 abbrev pub ArmParts : Type 0
 ArmParts = Expr × Body
@@ -250,6 +253,13 @@ module _ (file : File) (frame : Frame) where
     after = (joined arms last (λ as' r. s.If as' r)).after;
   }
 
+  abbrev pub while_part : ℕ → Expr → Body → Part RStmt
+  while_part l e p = joined (says (λ env. number file frame env l e)) (inside (p true)) (λ x r. s.While x r)
+
+  -- the condition stands in the line of the `do`
+  abbrev pub do_part : ℕ → Expr → Body → Part RStmt
+  do_part l e p = joined (says (λ env. number file frame env l e)) (inside (p true)) (λ x r. s.Do r x)
+
   abbrev pub last_part : Bool → Option Body → Part (Option RStmt)
   last_part in_loop None = says (λ env. Ok None)
   last_part in_loop (Some p) = becomes (inside (p in_loop)) Some
@@ -264,10 +274,10 @@ module _ (file : File) (frame : Frame) where
   stmt_at (Stmt-F.Print l ps es) in_loop = says (print_stmt l ps es)
   stmt_at (Stmt-F.Return l g) in_loop = says (return_stmt l g)
   stmt_at (Stmt-F.If l arms last) in_loop = if_parts l (map (λ a. a.0) arms) (all (map (arm_part l in_loop) arms)) (last_part in_loop last)
-  stmt_at (Stmt-F.While l e p) in_loop = joined (says (λ env. number file frame env l e)) (inside (p true)) (λ x r. s.While x r)
-  stmt_at (Stmt-F.Do l p e) in_loop = joined (says (λ env. number file frame env l e)) (inside (p true)) (λ x r. s.Do r x)
+  stmt_at (Stmt-F.While l e p) in_loop = while_part l e p
+  stmt_at (Stmt-F.Do l p e) in_loop = do_part l e p
   stmt_at (Stmt-F.For l i e u p) in_loop = inside (for_parts l i e u (p true))
-  stmt_at (Stmt-F.Block l ps) in_loop = inside (becomes (all (map (λ p. p in_loop) ps)) s.Block)
+  stmt_at (Stmt-F.Block l ps) in_loop = block_part ps in_loop
   stmt_at (Stmt-F.Break l) in_loop = says (λ env. stmt_if l in_loop s.Break)
   stmt_at (Stmt-F.Continue l) in_loop = says (λ env. stmt_if l in_loop s.Continue)
   stmt_at (Stmt-F.Checkpoint l) in_loop = says (λ env. Ok (checkpoint_stmt frame))

@@ -204,26 +204,28 @@ impl FileNames {
         Ok(())
     }
 
-    /// Makes a function known.
+    /// Makes a function known by its number.
     pub fn add_function(
         &mut self,
         alloc: Global,
         name: &Text,
-        signature: Signature,
+        number: u32,
     ) -> Result<(), NoMemory>
-        ensures answer { OnOk result (self.new ≡ spec.with_function self.old name.now signature) }
+        ensures answer { OnOk result (self.new ≡ spec.with_function self.old name.now number) }
     {
-        let number = self.signatures.len();
-        if number >= u32::MAX as usize {
-            return Err(NoMemory);
-        }
         let key = name.copy(alloc)?;
-        let done = self.functions.insert(key, number as u32);
+        let done = self.functions.insert(key, number);
         if done.is_err() {
             return Err(NoMemory);
         }
-        self.signatures.push(signature)?;
         Ok(())
+    }
+
+    /// Makes known what the functions take and answer.
+    pub fn set_signatures(&mut self, signatures: Items<Signature>)
+        ensures answer { self.new ≡ spec.with_signatures self.old signatures }
+    {
+        self.signatures = signatures;
     }
 }
 

@@ -72,7 +72,7 @@ fn cells_of(length: i64) -> u64
     }
 }
 
-fn form_length(file: &FileNames, form: &ObjectForm) -> u64
+pub fn form_length(file: &FileNames, form: &ObjectForm) -> u64
     ensures answer { result ≡ spec.form_length file.now form.now }
 {
     match form {
@@ -364,24 +364,32 @@ fn signature(alloc: Global, function: &Function) -> Result<Signature, AllocError
     })
 }
 
-fn add_function_of(alloc: Global, file: &mut FileNames, item: &Item) -> Result<(), NoMemory>
-    ensures answer { OnOk result (file.new ≡ spec.with_function_of file.old item.now) }
-{
-    match item {
-        Item::Function(f) => {
-            let signature = signature(alloc, f)?;
-            file.add_function(alloc, &f.name.text, signature)
-        }
-        _ => Ok(()),
-    }
-}
-
 /// Makes the functions known, which they are in the whole file.
 pub fn add_functions(alloc: Global, file: &mut FileNames, items: &[Item]) -> Result<(), NoMemory>
-    ensures answer { OnOk result (file.new ≡ spec.with_functions file.old items.now) }
+    ensures answer { OnOk result (file.new ≡ spec.with_functions file.old 0 items.now) }
 {
+    let mut number = 0;
     for i in items {
-        add_function_of(alloc, file, i)?;
+        if let Item::Function(f) = i {
+            file.add_function(alloc, &f.name.text, number)?;
+            if number == u32::MAX {
+                return Err(NoMemory);
+            }
+            number += 1;
+        }
     }
     Ok(())
+}
+
+/// What the functions take and answer, in order.
+pub fn signatures(alloc: Global, items: &[Item]) -> Result<Items<Signature>, AllocError>
+    ensures answer { IfOk result (λ ss. ss ≡ spec.signatures_of items.now) }
+{
+    let mut done = Items::new(alloc);
+    for i in items {
+        if let Item::Function(f) = i {
+            done.push(signature(alloc, f)?)?;
+        }
+    }
+    Ok(done)
 }

@@ -12,7 +12,7 @@ use Rattle.image_format.specs.Image.{Image}
 use Rattle.image_chain.specs.declared.chain.Current.{Current}
 use Rattle.image_chain.specs.declared.chain.Step.{Step}
 use Rattle.image_chain.specs.declared.chain.Step.TheVariants.{Piece, SyncRecord, OpenGate, SyncGate, Done}
-use Rattle.image_chain.specs.Append.{front, Keeps, IsAtRest, IsDue, Stands, Spells, IsInside, IsInsideOrDone, SameCurrent, next_of, due_after, left_to_do}
+use Rattle.image_chain.specs.Append.{front, Keeps, IsAtRest, IsDue, Stands, Spells, IsInside, IsInsideOrDone, SameCurrent, TakesOver, IfLast, next_of, due_after, left_to_do}
 use Rattle.image_chain.specs.Lists.{Lists, IsKept, IsAppended, IsLeftIn, Makes, SoFar}
 use Rattle.image_chain.proofs.ListLaws.{holds_of, lists_of}
 use Rattle.image_chain.proofs.StepLaws.{front_and_gate}
@@ -113,3 +113,28 @@ same_next SyncRecord n start chain after inside was is more = is ∙ was
 same_next OpenGate n start chain after inside was is more = is ∙ was
 same_next SyncGate n start chain after inside was is more = absurd (more refl)
 same_next Done n start chain after inside was is more = is ∙ was
+
+pub took_next : (at : Step) (n : ℕ) (start chain after : Current) (image : List ℕ) → IsInside at n → chain ≡ start → IfLast at (TakesOver chain after image) → next_of at n ≡ Done → TakesOver start after image
+took_next (Piece i) n start chain after image inside was took last = absurd (elim (cases_lt (4096 * (i + 1)) n) [
+  | inl more ↦ piece_not_done (i + 1) (sym (ap (λ (b : Bool). cond b (Piece (i + 1)) SyncRecord) (lt-yes (4096 * (i + 1)) n more)) ∙ last)
+  | inr end ↦ sync_not_done (sym (ap (λ (b : Bool). cond b (Piece (i + 1)) SyncRecord) (lt-no (4096 * (i + 1)) n end)) ∙ last)
+])
+  where
+    piece_not_done : (j : ℕ) → Piece j ≡ Done → ⊥
+    piece_not_done j e = cc
+
+    sync_not_done : SyncRecord ≡ Done → ⊥
+    sync_not_done e = cc
+took_next SyncRecord n start chain after image inside was took last = absurd (wrong last)
+  where
+    wrong : OpenGate ≡ Done → ⊥
+    wrong e = cc
+took_next OpenGate n start chain after image inside was took last = absurd (wrong last)
+  where
+    wrong : SyncGate ≡ Done → ⊥
+    wrong e = cc
+took_next SyncGate n start chain after image inside was took last = subst (λ (c : Current). TakesOver c after image) was took
+took_next Done n start chain after image inside was took last = absurd inside
+
+pub not_last : Piece 0 ≡ Done → ⊥
+not_last e = cc

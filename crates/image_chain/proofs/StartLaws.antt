@@ -22,7 +22,7 @@ use Rattle.image_chain.proofs.StepLaws.{IsBefore, kept_moments, alone_after, len
 
 -- ---- a store without a chain
 
-ok_step : {A B : Type 0} (r : Result A Damage) (f : A → Result B Damage) (y : B) → (r >>= f) ≡ Ok y → (x : A) × (r ≡ Ok x) × (f x ≡ Ok y)
+pub ok_step : {A B : Type 0} (r : Result A Damage) (f : A → Result B Damage) (y : B) → (r >>= f) ≡ Ok y → (x : A) × (r ≡ Ok x) × (f x ≡ Ok y)
 ok_step (Ok x) f y e = (x, refl, e)
 ok_step (Err d) f y e = absurd cc
 
@@ -39,7 +39,7 @@ not_none s c is =
     some_not_none : (f : Found) → read (Some f) ≡ Ok None → ⊥
     some_not_none f e = cc
 
-none_current : (s : Store) (c : Option (DiskFile × Header)) → found_in s c ≡ Ok None → c ≡ None
+pub none_current : (s : Store) (c : Option (DiskFile × Header)) → found_in s c ≡ Ok None → c ≡ None
 none_current s None is = refl
 none_current s (Some c) is = absurd (not_none s c is)
 

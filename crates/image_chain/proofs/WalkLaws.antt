@@ -87,15 +87,15 @@ walk_refused current kept rs file r (Damaged f place) walked opened one refused 
     let mine = record_is current.file file (current.gate + 1) r one in
     ⊎_elim
     (λ many.
-      let left : current.max - current.count ≡ 0 = omega (arith, many.0) in
-      let d : Damage = record { file = current.file; place = current.gate } in
-      total_bad rs read total d (ap (λ (n : ℕ). records_at n current.file file current.newest current.gate) left ∙ one_too_many current.file file current.newest current.gate r opened mine) walked.total
-      ∙ same_damage current.file f current.gate place (sym refused.0) (sym many.1))
+    let left : current.max - current.count ≡ 0 = omega (arith, many.0) in
+    let d : Damage = record { file = current.file; place = current.gate } in
+    total_bad rs read total d (ap (λ (n : ℕ). records_at n current.file file current.newest current.gate) left ∙ one_too_many current.file file current.newest current.gate r opened mine) walked.total
+    ∙ same_damage current.file f current.gate place (sym refused.0) (sym many.1))
     (λ broken.
-      let left : current.max - current.count ≡ suc (current.max - current.count - 1) = omega (arith, broken.0) in
-      let d : Damage = record { file = current.file; place = current.gate + 1 + broken.1.0 } in
-      total_bad rs read total d (ap (λ (n : ℕ). records_at n current.file file current.newest current.gate) left ∙ out_of_order (current.max - current.count - 1) current.file file current.newest current.gate r broken.1.0 opened mine broken.1.1) walked.total
-      ∙ same_damage current.file f (current.gate + 1 + broken.1.0) place (sym refused.0) (sym broken.1.2))
+    let left : current.max - current.count ≡ suc (current.max - current.count - 1) = omega (arith, broken.0) in
+    let d : Damage = record { file = current.file; place = current.gate + 1 + broken.1.0 } in
+    total_bad rs read total d (ap (λ (n : ℕ). records_at n current.file file current.newest current.gate) left ∙ out_of_order (current.max - current.count - 1) current.file file current.newest current.gate r broken.1.0 opened mine broken.1.1) walked.total
+    ∙ same_damage current.file f (current.gate + 1 + broken.1.0) place (sym refused.0) (sym broken.1.2))
     refused.1
   where
     damage : DiskFile → ℕ → Result (List Image) Damage
@@ -119,22 +119,22 @@ walk_on old new kept now rs r file room n walked opened same is is_front one acc
     let gate = is_front.0 in
     let rest = is_front.1 ++ drop n (drop (old.gate + 1) file) in
     let behind : drop (old.gate + 1) file ≡ text r ++ gate ∷ rest =
-      sym (take-append-drop n (drop (old.gate + 1) file)) ∙ ap (λ (l : List ℕ). l ++ drop n (drop (old.gate + 1) file)) (sym same ∙ is_front.2) ∙ append_assoc (text r ++ gate ∷ []) is_front.1 (drop n (drop (old.gate + 1) file)) ∙ append_assoc (text r) (gate ∷ []) rest in
+    sym (take-append-drop n (drop (old.gate + 1) file)) ∙ ap (λ (l : List ℕ). l ++ drop n (drop (old.gate + 1) file)) (sym same ∙ is_front.2) ∙ append_assoc (text r ++ gate ∷ []) is_front.1 (drop n (drop (old.gate + 1) file)) ∙ append_assoc (text r) (gate ∷ []) rest in
     let open_byte : slice_index file old.gate ≡ 165 = eqb-true _ _ opened in
     let before = front old rs ++ 165 ∷ text r in
     let whole : file ≡ before ++ gate ∷ rest =
-      at_gate old kept rs file walked ∙ ap (λ (b : ℕ). front old rs ++ b ∷ drop (old.gate + 1) file) open_byte ∙ ap (λ (l : List ℕ). front old rs ++ 165 ∷ l) behind ∙ sym (append_assoc (front old rs) (165 ∷ text r) (gate ∷ rest)) in
+    at_gate old kept rs file walked ∙ ap (λ (b : ℕ). front old rs ++ b ∷ drop (old.gate + 1) file) open_byte ∙ ap (λ (l : List ℕ). front old rs ++ 165 ∷ l) behind ∙ sym (append_assoc (front old rs) (165 ∷ text r) (gate ∷ rest)) in
     let t = text_length r is in
     let ag = accepted.gate in
     let size : length before ≡ new.gate = (let f = front_length old kept rs file walked in omega (arith, length-append (front old rs) (165 ∷ text r))) in
     let fronts : before ≡ front new (rs ++ r ∷ []) =
-      append_assoc (head (header_of old)) (chained rs) (165 ∷ text r) ∙ ap (λ (l : List ℕ). head (header_of old) ++ l) (sym (chained_push rs r)) ∙ ap (λ (h : Header). head h ++ chained (rs ++ r ∷ [])) (sym accepted.header) in
+    append_assoc (head (header_of old)) (chained rs) (165 ∷ text r) ∙ ap (λ (l : List ℕ). head (header_of old) ++ l) (sym (chained_push rs r)) ∙ ap (λ (h : Header). head h ++ chained (rs ++ r ∷ [])) (sym accepted.header) in
     let max : new.max ≡ old.max = ap (λ (h : Header). h.max) accepted.header in
     let count = walked.count in let counted = accepted.count in let g = walked.gate in
     let mine = record_is old.file file (old.gate + 1) r one in
     let total = total_next old.max old.count old.file file old.newest old.gate rs r (records_at old.max old.file file None 15) accepted.room opened mine accepted.order walked.total in
-    let all = ap length whole ∙ length-append before (gate ∷ rest) in
-    (record {
+    let all = ap length whole ∙ length-append before (gate ∷ rest) in (
+      record {
         images = images_push rs r walked.images is;
         order = order_push None rs r walked.order (ap (λ (o : Option Fields). broken_field o r.fields) (sym walked.newest) ∙ accepted.order);
         count = omega (arith, length_push rs r);
@@ -147,7 +147,8 @@ walk_on old new kept now rs r file room n walked opened same is is_front one acc
         total = moved total (sym accepted.file) (sym max) (sym accepted.count) (sym accepted.newest) (sym accepted.gate);
       },
       ap (λ (l : List ℕ). slice_index l new.gate) whole ∙ get_or_at before gate rest 0 new.gate size
-      ∙ sym (ap (λ (l : List ℕ). slice_index l (image_length r - 1)) (is_front.2 ∙ append_assoc (text r) (gate ∷ []) is_front.1) ∙ get_or_at (text r) gate is_front.1 0 (image_length r - 1) (omega arith)))
+          ∙ sym (ap (λ (l : List ℕ). slice_index l (image_length r - 1)) (is_front.2 ∙ append_assoc (text r) (gate ∷ []) is_front.1) ∙ get_or_at (text r) gate is_front.1 0 (image_length r - 1) (omega arith)),
+    )
   where
     moved : {f : DiskFile} {max count newest_gate : ℕ} {newest : Option Fields}
         → with_front (rs ++ r ∷ []) (records_at (old.max - (old.count + 1)) old.file file (Some r.fields) (old.gate + image_length r)) ≡ records_at old.max old.file file None 15

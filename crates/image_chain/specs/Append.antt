@@ -171,3 +171,18 @@ left_to_do SyncRecord n = 3
 left_to_do OpenGate n = 2
 left_to_do SyncGate n = 1
 left_to_do Done n = 0
+
+-- The chain has taken the record over: one record more, and it is the newest.
+pub record TakesOver (old new : Current) (image : List ℕ) : Type 0 where
+  pub file : new.file ≡ old.file
+  pub header : header_of new ≡ header_of old
+  pub count : new.count ≡ old.count + 1
+  pub newest : (r : Image) → Spells r image → new.newest ≡ Some r.fields
+
+-- a fact on the last step
+abbrev pub IfLast : Step → Type 0 → Type 0
+IfLast (Piece i) P = Unit {0}
+IfLast SyncRecord P = Unit {0}
+IfLast OpenGate P = Unit {0}
+IfLast SyncGate P = P
+IfLast Done P = Unit {0}

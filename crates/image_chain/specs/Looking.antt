@@ -45,3 +45,7 @@ pub record IsRecord (bytes : List ℕ) : Type 0 where
   pub image : Image
   pub is_image : IsImage image
   pub front : IsFront image bytes
+
+abbrev pub IsHeld : Option Header → Type 0
+IsHeld None = Unit {0}
+IsHeld (Some h) = IsHeldHeader h

@@ -1,8 +1,9 @@
 -- How far the records of a file were read.
-use Rattle.std.specs.Prelude.{◌≡◌, ◌⊎◌, ℕ, ◌+◌, ◌-◌, ◌<◌, ◌≤◌, IsTrue, Bool, true, List, [], ◌∷◌, ◌++◌, length, take, slice_index, Option, Some, None, Result, Ok, Err}
+use Rattle.std.specs.Prelude.{◌≡◌, ◌≢◌, ◌⊎◌, ℕ, ◌+◌, ◌-◌, ◌<◌, ◌≤◌, IsTrue, Bool, true, List, [], ◌∷◌, ◌++◌, length, take, slice_index, Option, Some, None, Result, Ok, Err}
 use Rattle.std.specs.List.{AllByRecursion}
 use Rattle.disk_model.specs.declared.disk_file.DiskFile.{DiskFile}
-use Rattle.disk_model.specs.Store.{Store}
+use Rattle.disk_model.specs.declared.disk_file.DiskFile.TheVariants.{Output}
+use Rattle.disk_model.specs.Store.{Store, file_of}
 use Rattle.image_format.specs.declared.fields.Fields.{Fields}
 use Rattle.image_format.specs.declared.header.Header.{Header}
 use Rattle.image_format.specs.Image.{Image, IsImage, word_in_runs}
@@ -15,8 +16,10 @@ use Rattle.std.specs.Option.{option_or}
 use Rattle.image_chain.specs.declared.fault.ChainFault.{ChainFault}
 use Rattle.image_chain.specs.declared.fault.ChainFault.TheVariants.{Failed, Damaged}
 use Rattle.image_chain.specs.Memory.{Joined, memory, kept_word}
-use Rattle.image_chain.specs.Append.{header_of, front, chained_length, AreInOrder}
-use Rattle.image_chain.specs.Lists.{found_of}
+use Rattle.image_chain.specs.Append.{header_of, front, chained_length, AreInOrder, Keeps, IsAside, other}
+use Rattle.image_chain.specs.declared.chain.Step.TheVariants.{Piece}
+use Rattle.image_chain.specs.Lists.{found_of, Rests}
+use Rattle.disk_model.specs.View.{View}
 
 -- what was read before, and what is still read
 abbrev pub with_front : List Image → Result (List Image) Damage → Result (List Image) Damage
@@ -58,3 +61,30 @@ IsRefused Failed old image = ⊥
 IsRefused (Damaged file place) old image =
     (file ≡ old.file) × (((old.count ≡ old.max) × (place ≡ old.gate))
     ⊎ ((old.count < old.max) × ((field : ℕ) × (broken_field old.newest image.fields ≡ Some field) × (place ≡ old.gate + 1 + field))))
+
+-- All records of the file were read, and are kept.
+pub record IsRead (current : Current) (kept : Joined) (rs : List Image) (file : List ℕ) : Type 0 where
+  pub keeps : Keeps current rs
+  pub some : 1 ≤ length rs
+  pub gate : ℕ
+  pub behind : List ℕ
+  pub closed : gate ≢ 165
+  pub text : file ≡ front current rs ++ gate ∷ behind
+  pub words : (c : ℕ) → kept_word kept c ≡ memory rs c
+
+-- the chain was read from these files, and the other file is aside
+pub record IsReadFrom (chain : Chain) (kept : Joined) (rs : List Image) (s : Store) : Type 0 where
+  pub due : chain.due ≡ Piece 0
+  pub image_file : chain.current.file ≢ Output
+  pub read : IsRead chain.current kept rs (file_of chain.current.file s)
+  pub aside : IsAside (other chain.current.file) chain.current.generation (length rs) (file_of (other chain.current.file) s)
+
+-- what was read where a chain was found
+abbrev pub IsFound : Option Chain → Joined → List Image → Store → Type 0
+IsFound None kept rs s = Unit {0}
+IsFound (Some chain) kept rs s = IsReadFrom chain kept rs s
+
+-- What was opened, on this disk: no crash leaves a chain; or the chain is at rest with these records, and their joined content is kept.
+abbrev pub IsOpened : Option Chain → Joined → List Image → View → Type 0
+IsOpened None kept rs v = (c : Store) → v.may_leave c → chain_in c ≡ Ok None
+IsOpened (Some chain) kept rs v = Rests chain v rs × ((c : ℕ) → kept_word kept c ≡ memory rs c)

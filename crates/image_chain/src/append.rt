@@ -7,7 +7,7 @@ ghost use Rattle.disk_model.specs.Moments.{Among, LeavesOnly};
 ghost use Rattle.image_format.specs.Image.{Image};
 ghost use Rattle.image_format.specs.Spelling.{image_length};
 ghost use Rattle.image_chain.specs.Records.{broken_field};
-ghost use Rattle.image_chain.specs.Append.{header_of, IsDue, IsInside, SameCurrent, Spells, next_of, due_after as step_after};
+ghost use Rattle.image_chain.specs.Append.{header_of, IsDue, IsInside, SameCurrent, Spells, TakesOver, IfLast, next_of, due_after as step_after};
 ghost use Rattle.image_chain.specs.Lists.{Makes, IsAppended, Lists, Rests};
 
 use crate::chain::{Chain, Current, Step};
@@ -45,6 +45,7 @@ impl Chain {
         ensures order { IfOk result (λ next. next ≡ next_of at (length image.now)) }
         ensures due { IfOk result (λ next. self.new.due ≡ step_after next) }
         ensures same { SameCurrent at self.old.current self.new.current }
+        ensures took { OnOk result (IfLast at (TakesOver self.old.current self.new.current image.now)) }
         ensures makes { Makes self.old.current self.new.current image.now at result (D.view disk.old) (D.view disk.new) }
         ensures failed { OnErr result (Rose (D.view disk.old).faults (D.view disk.new).faults) }
         ensures steady { Steady (D.view disk.old) (D.view disk.new) }
@@ -64,6 +65,7 @@ impl Chain {
         requires follows { (r : Image) → Spells r image.now → broken_field self.old.current.newest r.fields ≡ None }
         requires rest { self.old.due ≡ Step.Piece 0 }
         requires rests { IsTrue (D.view disk.old).tells → (rs : List Image) × Rests self.old (D.view disk.old) rs }
+        ensures took { OnOk result ((self.new.due ≡ Step.Piece 0) × TakesOver self.old.current self.new.current image.now) }
         ensures answer { OnOk result (IsTrue (D.view disk.old).tells → (rs : List Image) (r : Image) → Spells r image.now → Rests self.old (D.view disk.old) rs
             → Rests self.new (D.view disk.new) (rs ++ r ∷ [])) }
         ensures any_moment { IsTrue (D.view disk.old).tells → (rs : List Image) (r : Image) → Spells r image.now → Rests self.old (D.view disk.old) rs
@@ -103,6 +105,7 @@ fn make_step<D: Disk>(
     requires stands { IsTrue (D.view disk.old).tells → (rs : List Image) × IsDue chain.old (D.view disk.old) rs image.now at }
     ensures order { IfOk result (λ next. next ≡ next_of at (length image.now)) }
     ensures same { SameCurrent at chain.old chain.new }
+    ensures took { OnOk result (IfLast at (TakesOver chain.old chain.new image.now)) }
     ensures makes { Makes chain.old chain.new image.now at result (D.view disk.old) (D.view disk.new) }
     ensures failed { OnErr result (Rose (D.view disk.old).faults (D.view disk.new).faults) }
     ensures steady { Steady (D.view disk.old) (D.view disk.new) }
@@ -170,6 +173,7 @@ fn sync_gate<D: Disk>(chain: &mut Current, disk: &mut D, image: &[u8]) -> Result
     requires room { chain.old.count < chain.old.max }
     requires follows { (r : Image) → Spells r image.now → broken_field chain.old.newest r.fields ≡ None }
     ensures order { IfOk result (λ next. next ≡ next_of Step.SyncGate (length image.now)) }
+    ensures took { OnOk result (TakesOver chain.old chain.new image.now) }
     ensures makes { Makes chain.old chain.new image.now Step.SyncGate result (D.view disk.old) (D.view disk.new) }
     ensures failed { OnErr result (Rose (D.view disk.old).faults (D.view disk.new).faults) }
     ensures steady { Steady (D.view disk.old) (D.view disk.new) }

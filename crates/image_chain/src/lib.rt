@@ -12,8 +12,11 @@ mod fault;
 mod kept;
 mod look;
 mod open;
+mod record;
 mod room;
 mod start;
+#[cfg(test)]
+mod tests;
 
 pub use chain::{Chain, Step};
 pub use fault::ChainFault;

@@ -4,7 +4,7 @@ ghost use Rattle.ckpt_base.specs.Faults.{Rose};
 ghost use Rattle.disk_model.specs.Store.{file_of};
 ghost use Rattle.image_format.specs.Reading.{image_at};
 ghost use Rattle.image_chain.specs.Records.{header_in};
-ghost use Rattle.image_chain.specs.Looking.{Answers, RoseIfFailed, OnlyLooked, IsHeaderText, IsRecord};
+ghost use Rattle.image_chain.specs.Looking.{Answers, RoseIfFailed, OnlyLooked, IsHeaderText, IsHeld, IsRecord};
 
 use crate::fault::ChainFault;
 use crate::room::{ChainRoom, RECORD_BYTES};
@@ -15,6 +15,7 @@ use image_format::{Header, read_header, read_record};
 // The header of an image file, or none where the file is empty.
 pub(crate) fn header_of<D: Disk>(disk: &mut D, file: DiskFile) -> Result<Option<Header>, ChainFault>
     ensures answer { IsTrue (D.view disk.old).tells → Answers (λ h. h) result (header_in file (file_of file (D.view disk.old).seen)) }
+    ensures held { IfOk result IsHeld }
     ensures text { IfOk result (λ h. IsTrue (D.view disk.old).tells → IsHeaderText h (file_of file (D.view disk.old).seen)) }
     ensures looked { OnlyLooked (D.view disk.old) (D.view disk.new) }
     ensures failed { IfErr result (λ e. RoseIfFailed e (D.view disk.old).faults (D.view disk.new).faults) }

@@ -1,22 +1,22 @@
 //! Opening the chain of a store.
-ghost use Rattle.std.specs.Prelude.{◌≡◌, ◌≢◌, ◌⊎◌, ◌+◌, ◌*◌, ◌<◌, ◌≤◌, length, IsTrue, IfOk, IfErr, OnOk, slice_index, Option, Some, None, Ok, Err, [], ◌∷◌, ◌++◌, List, ℕ, true, false};
+ghost use Rattle.std.specs.Prelude.{◌≡◌, ◌≢◌, ◌⊎◌, ◌+◌, ◌*◌, ◌<◌, ◌≤◌, length, IsTrue, IfOk, IfErr, OnOk, slice_index, Option, Some, None, Ok, Err, [], ◌∷◌, ◌++◌, List, ℕ, true, false, if◌then◌else◌, take};
 ghost use Rattle.disk_model.specs.Store.{Store, file_of};
 ghost use Rattle.disk_model.specs.View.{Steady};
 ghost use Rattle.disk_model.specs.Moments.{Among, LeavesOnly};
-ghost use Rattle.image_format.specs.Image.{Image, IsImage};
-ghost use Rattle.image_format.specs.Spelling.{is_open, image_length};
-ghost use Rattle.image_chain.specs.Records.{broken_field, only_open, newer as newer_of, in_number, records_at, record_in, chain_in};
+ghost use Rattle.image_format.specs.Image.{Image, IsImage, IsHeldHeader};
+ghost use Rattle.image_format.specs.Spelling.{is_open, image_length, SpellsHeader};
+ghost use Rattle.image_chain.specs.Records.{broken_field, only_open, newer as newer_of, in_number, damaged, records_at, record_in, found_in, chain_in};
 ghost use Rattle.image_chain.specs.Memory.{memory, kept_word};
 ghost use Rattle.image_chain.specs.Append.{header_of as header_kept};
-ghost use Rattle.image_chain.specs.Lists.{Rests};
+ghost use Rattle.image_chain.specs.Lists.{Rests, found_of};
 ghost use Rattle.image_chain.specs.Looking.{IsDamage, Answers, RoseIfFailed, OnlyLooked};
-ghost use Rattle.image_chain.specs.Walk.{Walked, Accepted, IsRefused, opened_as};
+ghost use Rattle.image_chain.specs.Walk.{Walked, Accepted, IsRefused, IsRead, IsFound, IsOpened, opened_as};
 
 use crate::append::OPEN_GATE;
-use crate::chain::Current;
+use crate::chain::{Chain, Current, Step};
 use crate::fault::ChainFault;
 use crate::kept::Kept;
-use crate::look::fetch;
+use crate::look::{fetch, header_of};
 use crate::room::ChainRoom;
 use disk_model::{Disk, DiskFile};
 use image_format::{Fields, Header, ImageView, read_record};
@@ -89,11 +89,7 @@ fn broken_place(newest: &Option<Fields>, fields: &Fields) -> Option<u64>
 }
 
 // Keeps the record behind the gate at hand, unless it is one too many or does not follow the one before it.
-fn accept(
-    current: &mut Current,
-    kept: &mut Kept,
-    view: &ImageView<'_>,
-) -> Result<(), ChainFault>
+fn accept(current: &mut Current, kept: &mut Kept, view: &ImageView<'_>) -> Result<(), ChainFault>
     requires length { image_length view.now ≤ 3145837 }
     ensures answer { OnOk result (Accepted current.old current.new kept.old kept.new view.now) }
     ensures err { IfErr result (λ e. IsRefused e current.old view.now) }
@@ -173,4 +169,102 @@ fn walk<D: Disk>(
         open = read_next(disk, current, room, kept)?;
     }
     Ok(())
+}
+
+// Whether the generation and the count run ahead of the number of the newest image.
+fn is_ahead(current: &Current) -> bool
+    ensures { in_number current.now.file (current.now.generation + current.now.count) current.now.newest ≡ (if result then damaged current.now.file 4 else Ok tt) }
+{
+    match current.newest {
+        Some(fields) => {
+            (fields.number as u64) + 1 < current.generation as u64 + current.count as u64
+        }
+        None => false,
+    }
+}
+
+// The chain of the current file, with all of its records read.
+fn read_chain<D: Disk>(
+    disk: &mut D,
+    file: DiskFile,
+    header: Header,
+    room: &mut ChainRoom,
+    kept: &mut Kept,
+) -> Result<Chain, ChainFault>
+    requires held { IsHeldHeader header }
+    requires open { header.gate_open ≡ true }
+    requires text { IsTrue (D.view disk.old).tells → SpellsHeader header (take 16 (file_of file (D.view disk.old).seen)) × (16 ≤ length (file_of file (D.view disk.old).seen)) }
+    requires none { (c : ℕ) → kept_word kept.old c ≡ None }
+    ensures same { IfOk result (λ chain. (chain.current.file ≡ file) × (header_kept chain.current ≡ header) × (chain.due ≡ Step.Piece 0)) }
+    ensures answer { IfOk result (λ chain. IsTrue (D.view disk.old).tells → (rs : List Image) × IsRead chain.current kept.new rs (file_of file (D.view disk.old).seen)
+        × (found_in (D.view disk.old).seen (Some (file, header)) ≡ Ok (found_of file header rs))) }
+    ensures err { IfErr result (λ e. IsTrue (D.view disk.old).tells → IsDamage e (found_in (D.view disk.old).seen (Some (file, header)))) }
+    ensures looked { OnlyLooked (D.view disk.old) (D.view disk.new) }
+    ensures failed { IfErr result (λ e. RoseIfFailed e (D.view disk.old).faults (D.view disk.new).faults) }
+{
+    let mut current = Current {
+        file,
+        generation: header.generation,
+        every: header.every,
+        max: header.max,
+        count: 0,
+        gate: 15,
+        newest: None,
+        newest_at: 0,
+    };
+    walk(disk, &mut current, room, kept)?;
+    if is_ahead(&current) {
+        return Err(ChainFault::Damaged { file, place: 4 });
+    }
+    Ok(Chain {
+        current,
+        due: Step::Piece(0),
+    })
+}
+
+// The chain of a store whose image files are on the disk as they read.
+fn read_store<D: Disk>(
+    disk: &mut D,
+    room: &mut ChainRoom,
+    kept: &mut Kept,
+) -> Result<Option<Chain>, ChainFault>
+    requires none { (c : ℕ) → kept_word kept.old c ≡ None }
+    ensures answer { IfOk result (λ found. IsTrue (D.view disk.old).tells → (rs : List Image) × (chain_in (D.view disk.old).seen ≡ Ok (opened_as found rs)) × IsFound found kept.new rs (D.view disk.old).seen) }
+    ensures err { IfErr result (λ e. IsTrue (D.view disk.old).tells → IsDamage e (chain_in (D.view disk.old).seen)) }
+    ensures looked { OnlyLooked (D.view disk.old) (D.view disk.new) }
+    ensures failed { IfErr result (λ e. RoseIfFailed e (D.view disk.old).faults (D.view disk.new).faults) }
+{
+    let one = header_of(disk, DiskFile::One)?;
+    let two = header_of(disk, DiskFile::Two)?;
+    let (file, header) = match newer(one, two)? {
+        Some(found) => found,
+        None => return Ok(None),
+    };
+    let chain = read_chain(disk, file, header, room, kept)?;
+    Ok(Some(chain))
+}
+
+impl Chain {
+    /// Opens the chain of a store: makes both image files lasting, reads the headers and the current file's records, and keeps their joined
+    /// content. `None` comes where no file is current and nothing is damaged; `Damaged` exactly with the damage that the store has.
+    ///
+    /// `kept` lists nothing before, and is of no use after a fault. The contents of the disk stay.
+    pub fn open<D: Disk>(
+        disk: &mut D,
+        room: &mut ChainRoom,
+        kept: &mut Kept,
+    ) -> Result<Option<Chain>, ChainFault>
+        requires none { (c : ℕ) → kept_word kept.old c ≡ None }
+        ensures answer { IfOk result (λ found. IsTrue (D.view disk.old).tells → (rs : List Image) × (chain_in (D.view disk.old).seen ≡ Ok (opened_as found rs)) × IsOpened found kept.new rs (D.view disk.new)) }
+        ensures err { IfErr result (λ e. IsTrue (D.view disk.old).tells → IsDamage e (chain_in (D.view disk.old).seen)) }
+        ensures same { IsTrue (D.view disk.old).tells → (D.view disk.new).seen ≡ (D.view disk.old).seen }
+        ensures any_moment { IsTrue (D.view disk.old).tells → LeavesOnly (D.view disk.old) (D.view disk.new) (D.view disk.old).may_leave }
+        ensures failed { IfErr result (λ e. RoseIfFailed e (D.view disk.old).faults (D.view disk.new).faults) }
+        ensures steady { Steady (D.view disk.old) (D.view disk.new) }
+    {
+        disk.sync(DiskFile::One)?;
+        disk.sync(DiskFile::Two)?;
+        let found = read_store(disk, room, kept)?;
+        Ok(found)
+    }
 }

@@ -23,6 +23,7 @@ impl Chain {
         requires least { 2 ≤ max }
         requires most { max ≤ 64 }
         ensures header { IfOk result (λ chain. (chain.current.generation ≡ 1) × (chain.current.every ≡ every) × (chain.current.max ≡ max)) }
+        ensures none { IfOk result (λ chain. (chain.current.count ≡ 0) × (chain.current.newest ≡ None) × (chain.due ≡ Step.Piece 0)) }
         ensures answer { IfOk result (λ chain. IsTrue (D.view disk.old).tells → ((c : Store) → (D.view disk.old).may_leave c → chain_in c ≡ Ok None) → Rests chain (D.view disk.new) []) }
         ensures any_moment { IsTrue (D.view disk.old).tells → ((c : Store) → (D.view disk.old).may_leave c → chain_in c ≡ Ok None)
             → LeavesOnly (D.view disk.old) (D.view disk.new) (Among (D.view disk.old).may_leave HasNone) }

@@ -1,4 +1,3 @@
-use Rattle.std.proofs.Common.{ℕ}
 use Rattle.alias_sets.specs.declared.flows.PointerVar.TheVariants as var
 use Rattle.alias_sets.specs.declared.flows.Source.TheVariants as source'
 use Rattle.alias_sets.specs.Numbers.{FlowNumbered}

@@ -23,3 +23,6 @@ returns-clause-makes g c = λ tells rs r spells due.
       reads = sync_gate_reads c.args.chain.now _ _ rs r c.args.image.now c.sync.result tells c.sync.ensures.answer made due spells holds (g.met.D.Disk.lawful c.sync.new.self (subst IsTrue (sym c.sync.ensures.answer.tells) tells));
       moments = sync_gate_moments c.args.chain.now _ _ rs r c.args.image.now c.sync.result tells (g.met.D.Disk.lawful c.args.disk.now tells) c.sync.ensures.answer due spells holds;
     }
+
+pub returns-clause-took : goal.returns-clause-took
+returns-clause-took g c = let o = c.take_over.ensures in record { file = o.file; header = o.header; count = o.count; newest = o.newest }

@@ -23,8 +23,8 @@ pub returns-in_err-accept-clause-err : goal.returns-in_err-accept-clause-err
 returns-in_err-accept-clause-err g c =
     let p = err_from_is_err_and c.from_residual-in_err-accept.result c.from_residual-in_err-accept.ensures.1 in
     rw (p.1, p.2) (λ tells rs walked opened.
-      let bytes = c.bytes-bytes.ensures.answer in
-      walk_refused c.args.current.now c.args.kept.now rs _ c.in-Ok.view _ walked opened (sym (c.in_ok-n.ensures.answer tells) ∙ ap (λ (l : List ℕ). image_at (take c.in_ok-n.n l)) (sym bytes) ∙ c.in-Ok.ensures.exact) c.in_err-accept.ensures.err)
+    let bytes = c.bytes-bytes.ensures.answer in
+    walk_refused c.args.current.now c.args.kept.now rs _ c.in-Ok.view _ walked opened (sym (c.in_ok-n.ensures.answer tells) ∙ ap (λ (l : List ℕ). image_at (take c.in_ok-n.n l)) (sym bytes) ∙ c.in-Ok.ensures.exact) c.in_err-accept.ensures.err)
 
 pub bounds-bytes-length : goal.bounds-bytes-length
 bounds-bytes-length g c =

@@ -6,7 +6,7 @@ use Rattle.image_chain.specs.declared.chain.Current.{Current}
 use Rattle.image_chain.specs.declared.chain.Step.TheVariants.{Done}
 use Rattle.image_chain.specs.Records.{broken_field}
 use Rattle.image_chain.specs.Append.{IsInside, IsInsideOrDone, Stands, due_after, left_to_do}
-use Rattle.image_chain.proofs.LoopLaws.{begun, goes_on, due_next, inside_next, inside_due, smaller, stands_due, due_is, same_next}
+use Rattle.image_chain.proofs.LoopLaws.{begun, goes_on, due_next, inside_next, inside_due, smaller, stands_due, due_is, same_next, took_next, not_last}
 use Rattle.image_chain.proofs.StepLaws.{spells_length}
 use Rattle.image_chain.proofs.chain.Chain.append.Goals as goal
 
@@ -15,9 +15,13 @@ loop-at-init g c = record {
   inside = (let n = spells_length c.requires.image.0 c.args.image.now c.requires.image.1 in omega arith);
   due = c.requires.rest;
   same = λ _. refl;
+  took = λ last. absurd (not_last last);
   steady = record { tells = refl; tells_past = refl; faults = omega arith };
   so_far = λ tells rs r behind spells rest. begun c.args.self.now.current _ rs r c.args.image.now behind tells (g.met.D.Disk.lawful c.args.disk.now tells) rest;
 }
+
+pub returns-in-Done-clause-took : goal.returns-in-Done-clause-took
+returns-in-Done-clause-took g c = (c.loop-at.invariant.due ∙ ap due_after c.in-Done.is, c.loop-at.invariant.took c.in-Done.is)
 
 pub returns-in-Done-clause-answer : goal.returns-in-Done-clause-answer
 returns-in-Done-clause-answer g c = λ tells rs r spells rests.
@@ -47,6 +51,7 @@ pub returns-in_err-at : goal.returns-in_err-at
 returns-in_err-at g c =
     let inside = inside_due c.loop-at.at (length c.args.image.now) c.in_default.not-Done c.loop-at.invariant.inside in
     record {
+      took = search rules;
       answer = search rules;
       any_moment = λ tells rs r spells rests. goes_on c.args.self.now.current c.loop-at.self.current c.append_call.new.self.current _ _ _ rs r c.args.image.now c.loop-at.at c.append_call.result (c.loop-at.invariant.same c.in_default.not-Done) tells spells inside (c.loop-at.invariant.so_far tells rs r rests.1.0 spells rests.1.1) c.append_call.ensures.makes;
       failed = let a = c.in_err-at.ensures.failed in let b = c.loop-at.invariant.steady.faults in let rose : Rose (g.D.Disk.view c.args.disk.now).faults (g.D.Disk.view c.append_call.new.disk).faults = omega (arith, a, b) in search rules;
@@ -67,6 +72,7 @@ loop-at-preserved g c =
       inside = subst (λ at. IsInsideOrDone at (length c.args.image.now)) (sym order) (inside_next c.loop-at.at (length c.args.image.now) inside);
       due = c.in_ok-at.ensures.due;
       same = λ more. same_next c.loop-at.at (length c.args.image.now) c.args.self.now.current c.loop-at.self.current c.append_call.new.self.current inside same c.append_call.ensures.same (λ e. more (order ∙ e));
+      took = λ last. took_next c.loop-at.at (length c.args.image.now) c.args.self.now.current c.loop-at.self.current c.append_call.new.self.current c.args.image.now inside same c.in_ok-at.ensures.took (sym order ∙ last);
       steady = steady_twice _ _ _ c.loop-at.invariant.steady c.append_call.ensures.steady;
       so_far = λ tells rs r behind spells rest.
           let was = c.loop-at.invariant.so_far tells rs r behind spells rest in

@@ -1,0 +1,4 @@
+-- the edges between the nodes of a function
+pub mod Edges
+-- edges that are appended, the last first
+pub mod Laying

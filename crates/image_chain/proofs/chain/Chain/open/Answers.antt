@@ -1,0 +1,22 @@
+use Rattle.std.proofs.Common.{◌≡◌, ◌∙◌, sym, subst, Ok, IsTrue}
+use Rattle.disk_model.specs.Store.{Store}
+use Rattle.image_chain.specs.Records.{chain_in}
+use Rattle.image_chain.specs.Walk.{IsFound, opened_as}
+use Rattle.image_chain.proofs.OpenLaws.{synced_files, opened_all}
+use Rattle.image_chain.proofs.chain.Chain.open.Goals as goal
+
+pub returns-clause-answer : goal.returns-clause-answer
+returns-clause-answer g c = λ tells.
+    let first = c.in_ok-sync.ensures in
+    let mid = subst IsTrue (sym first.answer.tells) tells in
+    let second = c.in_ok-sync-2.ensures in
+    let end = subst IsTrue (sym second.answer.tells) mid in
+    let seen1 = (first.only tells).seen in
+    let seen2 = (second.only mid).seen ∙ seen1 in
+    let looked = c.read_store.ensures.looked in
+    let found = c.in_ok-found.found in
+    let kept = c.read_store.new.kept in
+    let a = c.in_ok-found.ensures.answer end in
+    let is = subst (λ (s : Store). chain_in s ≡ Ok (opened_as found a.0)) seen2 a.1 in
+    let from = subst (λ (s : Store). IsFound found kept a.0 s) seen2 a.2 in
+    (a.0, is, opened_all found kept a.0 _ _ is from (looked.seen end ∙ seen2) (λ s left. synced_files _ _ _ (first.answer.does tells) (second.answer.does mid) seen1 s ((looked.crash end s).0 left)))

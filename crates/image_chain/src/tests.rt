@@ -1,0 +1,77 @@
+ghost use Rattle.std.specs.Prelude.{◌≡◌, IfOk, None, []};
+ghost use Rattle.disk_model.specs.MemoryDisk.{empty_disk, view_of};
+ghost use Rattle.image_format.specs.Image.{Image};
+ghost use Rattle.image_chain.specs.Append.{Spells};
+ghost use Rattle.image_chain.specs.Lists.{Rests};
+
+use crate::{Chain, ChainRoom, Kept, Step};
+use cell_sets::Run;
+use ckpt_base::{Bytes, Failed};
+use disk_model::MemDisk;
+use image_format::{Fields, Marks, write_record};
+use page_frames::Frames;
+use std::test::Fail;
+
+const FIELDS: Fields = Fields {
+    marks: Marks {
+        source: [0x11; 32],
+        input: [0x22; 32],
+    },
+    node: 7,
+    steps: 7,
+    input_place: 0,
+    output_length: 0,
+    directive: 1,
+    left_out: false,
+    number: 1,
+};
+
+const RUNS: [Run; 2] = [Run { first: 3, count: 1 }, Run { first: 5, count: 1 }];
+
+// The record of two runs, over a memory of zeros but for cell 5.
+fn written(rt: &HostRuntime) -> Result<Bytes, Fail>
+    ensures { IfOk result (λ bytes. (r : Image) × Spells r bytes.list) }
+{
+    let mut memory = Frames::new(rt.alloc(), 1, 0)?;
+    memory.set_word(5, 0x0102_0304_0506_0708);
+    let mut out = Bytes::with_room(rt.alloc(), 141)?;
+    write_record(&FIELDS, RUNS.as_slice(), &memory, &mut out);
+    Ok(out)
+}
+
+// A chain without records, on a disk that was empty.
+fn begun(disk: &mut MemDisk) -> Result<Chain, Failed>
+    requires empty { disk.old ≡ empty_disk 64 4096 0 [] }
+    ensures none { IfOk result (λ chain. (chain.current.count ≡ 0) × (chain.current.newest ≡ None) × (chain.due ≡ Step.Piece 0) × (chain.current.max ≡ 16)) }
+    ensures rests { IfOk result (λ chain. Rests chain (view_of disk.new) []) }
+{
+    Chain::start(disk, 1, 16)
+}
+
+// How many records opening finds after a crash in the call that opens the gate.
+fn found_after(rt: &HostRuntime, pick: u8) -> Result<u16, Fail> {
+    let mut room = ChainRoom::new(rt.alloc())?;
+    let mut kept = Kept::new(rt.alloc())?;
+    let image = written(rt)?;
+    let mut disk = MemDisk::new(rt.alloc(), 64, 4096, 0, Vec::new(rt.alloc()))?;
+    let mut chain = begun(&mut disk)?;
+    disk.fuse(3);
+    if chain.append(&mut disk, image.as_slice()).is_ok() {
+        return Ok(99);
+    }
+    disk.crash(pick);
+    match Chain::open(&mut disk, &mut room, &mut kept) {
+        Ok(None) => Ok(0),
+        Ok(Some(chain)) => Ok(chain.count()),
+        Err(_) => Ok(98),
+    }
+}
+
+#[test]
+fn a_torn_gate_is_open_or_it_is_not(rt: HostRuntime) -> Result<(), Fail> {
+    assert_eq!(rt; found_after(&rt, 0)?, 0);
+    assert_eq!(rt; found_after(&rt, 1)?, 1);
+    assert_eq!(rt; found_after(&rt, 7)?, 0);
+    assert_eq!(rt; found_after(&rt, 165)?, 1);
+    Ok(())
+}
