@@ -12,3 +12,4 @@ pub mod Composed
 pub mod Fused
 pub mod BodyLaws
 pub mod TreeLaws
+pub mod Passing

@@ -14,10 +14,12 @@ mod limits;
 mod named_items;
 mod named_statements;
 mod names;
+mod passes;
 mod places;
 mod scope;
 mod single;
 mod statements;
 mod types;
 
+pub use passes::check;
 pub use fault::CheckFault;

@@ -16,3 +16,5 @@ pub mod TestLaws
 pub mod WalkLaws
 -- the chain that is opened
 pub mod OpenLaws
+-- the record that stands at a known place
+pub mod ShownLaws

@@ -32,11 +32,11 @@ image_back i gate more is =
     let first : take (length s) bytes ≡ s = take-take (length s) 3145837 whole size ∙ ap (λ (l : List ℕ). take (length s) l) (sym (append_assoc (text i) (gate ∷ []) more)) ∙ take_at s more (length s) refl in
     image_only bytes i is (gate, drop (length s) bytes, sym (take-append-drop (length s) bytes) ∙ ap (λ (l : List ℕ). l ++ drop (length s) bytes) first)
 
-behind_gate : (before : List ℕ) (gate : ℕ) (rest : List ℕ) → drop (length before + 1) (before ++ gate ∷ rest) ≡ rest
+pub behind_gate : (before : List ℕ) (gate : ℕ) (rest : List ℕ) → drop (length before + 1) (before ++ gate ∷ rest) ≡ rest
 behind_gate before gate rest = ap (λ (l : List ℕ). drop (length before + 1) l) (sym (append_assoc before (gate ∷ []) rest)) ∙ drop_at (before ++ gate ∷ []) rest (length before + 1) (omega (arith, length-append before (gate ∷ [])))
 
 -- what follows a record begins with a gate
-next_gate : (rs : List Image) (gate : ℕ) (behind : List ℕ) → (b : ℕ) × (more : List ℕ) × (chained rs ++ gate ∷ behind ≡ b ∷ more)
+pub next_gate : (rs : List Image) (gate : ℕ) (behind : List ℕ) → (b : ℕ) × (more : List ℕ) × (chained rs ++ gate ∷ behind ≡ b ∷ more)
 next_gate [] gate behind = (gate, behind, refl)
 next_gate (r ∷ rs) gate behind = (165, (text r ++ chained rs) ++ gate ∷ behind, refl)
 

@@ -72,6 +72,7 @@ read_done current kept rs file h walked closed some held header few number =
         newest = walked.newest;
         gate = walked.gate;
         newest_at = walked.newest_at;
+        spans = walked.spans;
       };
       some = some;
       gate = slice_index file current.gate;

@@ -95,6 +95,7 @@ started_keeps chain held generation count gate newest = record {
   newest = newest;
   gate = omega arith;
   newest_at = λ before r e. absurd (no_last before r e);
+  spans = refl;
 }
 
 -- the header of a chain that begins

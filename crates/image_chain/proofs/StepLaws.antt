@@ -19,9 +19,10 @@ use Rattle.image_format.specs.Spelling.{text, spelling, image_length}
 use Rattle.image_format.specs.Spelling.{IsFront}
 use Rattle.image_format.proofs.RecordLaws.{text_length, image_short}
 use Rattle.image_chain.specs.declared.chain.Current.{Current}
+use Rattle.image_chain.specs.declared.chain.Span.{Span}
 use Rattle.image_chain.specs.declared.chain.Step.TheVariants.{Piece, SyncRecord, OpenGate, SyncGate}
 use Rattle.image_chain.specs.Records.{broken_field, newest_of}
-use Rattle.image_chain.specs.Append.{header_of, head, chained, chained_length, AreInOrder, IsNumbered, Keeps, front, other, IsAside, Alone, IsAtRest, Spells, IsDue}
+use Rattle.image_chain.specs.Append.{header_of, head, chained, chained_length, spans_of, TakesSpan, AreInOrder, IsNumbered, Keeps, front, other, IsAside, Alone, IsAtRest, Spells, IsDue}
 use Rattle.image_chain.specs.Lists.{Lists, IsKept, IsAppended}
 use Rattle.image_chain.proofs.ListLaws.{Holds, holds_of, lists_of}
 
@@ -49,6 +50,25 @@ chained_push (s ∷ rs) r = ap (λ (l : List ℕ). 165 ∷ (text s ++ l)) (chain
 pub chained_length_push : (rs : List Image) (r : Image) → chained_length (rs ++ r ∷ []) ≡ chained_length rs + image_length r
 chained_length_push [] r = omega arith
 chained_length_push (s ∷ rs) r = let more = chained_length_push rs r in omega arith
+
+abbrev span : ℕ → ℕ → Span
+span at n = record { at = at; length = n }
+
+spans_push : (at : ℕ) (rs : List Image) (r : Image) → spans_of at (rs ++ r ∷ []) ≡ spans_of at rs ++ span (at + chained_length rs) (image_length r) ∷ []
+spans_push at [] r = ap (λ (n : ℕ). span n (image_length r) ∷ []) (omega arith)
+spans_push at (s ∷ rs) r =
+    ap (λ (l : List Span). span at (image_length s) ∷ l) (spans_push (at + image_length s) rs r ∙ ap (λ (n : ℕ). spans_of (at + image_length s) rs ++ span n (image_length r) ∷ []) (omega arith))
+
+-- where records stand once one is more
+pub spans_next : (old new : Current) (rs : List Image) (r : Image) → old.count ≡ length rs → old.gate ≡ 15 + chained_length rs → take (length rs) old.spans ≡ spans_of 16 rs → TakesSpan old new (image_length r) → take (length (rs ++ r ∷ [])) new.spans ≡ spans_of 16 (rs ++ r ∷ [])
+spans_next old new rs r count gate spans takes =
+    let n : length (rs ++ r ∷ []) ≡ old.count + 1 = (let m = length_push rs r in omega arith) in
+    let at : old.gate + 1 ≡ 16 + chained_length rs = omega arith in
+    ap (λ (k : ℕ). take k new.spans) n ∙ takes
+    ∙ ap (λ (k : ℕ). take k old.spans ++ span (old.gate + 1) (image_length r) ∷ []) count
+    ∙ ap (λ (l : List Span). l ++ span (old.gate + 1) (image_length r) ∷ []) spans
+    ∙ ap (λ (k : ℕ). spans_of 16 rs ++ span k (image_length r) ∷ []) at
+    ∙ sym (spans_push 16 rs r)
 
 pub length_chained : (rs : List Image) → AllByRecursion IsImage rs → length (chained rs) ≡ chained_length rs
 length_chained [] are = refl
@@ -100,8 +120,8 @@ holds_push chain rs r keeps is follows room =
 
 -- what a chain keeps once one record is more
 pub keeps_push : (chain after : Current) (rs : List Image) (r : Image) → Keeps chain rs → IsImage r → broken_field (newest_of None rs) r.fields ≡ None → length rs < chain.max
-    → header_of after ≡ header_of chain → after.count ≡ chain.count + 1 → after.gate ≡ chain.gate + image_length r → after.newest ≡ Some r.fields → after.newest_at ≡ chain.gate + 1 → Keeps after (rs ++ r ∷ [])
-keeps_push chain after rs r keeps is follows room same count gate newest newest_at =
+    → header_of after ≡ header_of chain → after.count ≡ chain.count + 1 → after.gate ≡ chain.gate + image_length r → after.newest ≡ Some r.fields → after.newest_at ≡ chain.gate + 1 → TakesSpan chain after (image_length r) → Keeps after (rs ++ r ∷ [])
+keeps_push chain after rs r keeps is follows room same count gate newest newest_at spans =
     let h = holds_push chain rs r keeps is follows room in
     let n = length_push rs r in
     let c = chained_length_push rs r in
@@ -118,6 +138,7 @@ keeps_push chain after rs r keeps is follows room same count gate newest newest_
       newest = newest ∙ sym (newest_push None rs r);
       gate = omega arith;
       newest_at = λ before q same_list. (let before_is : rs ≡ before = (same_from_push rs before r q same_list).0 in newest_at ∙ (let e : chain.gate + 1 ≡ 16 + chained_length rs = omega arith in e) ∙ ap (λ (l : List Image). 16 + chained_length l) before_is);
+      spans = spans_next chain after rs r keeps.count keeps.gate keeps.spans spans;
     }
 
 pub front_push : (chain : Current) (rs : List Image) (r : Image) → front chain (rs ++ r ∷ []) ≡ front chain rs ++ 165 ∷ text r
@@ -426,11 +447,11 @@ pub spells_front : (r : Image) (image : List ℕ) → Spells r image → IsFront
 spells_front r image spells = (0, [], spells.bytes_are ∙ sym (append-nil (spelling r 0)))
 
 pub sync_gate_keeps : (chain after : Current) (rs : List Image) (r : Image) (image : List ℕ) → Keeps chain rs → Spells r image → chain.count < chain.max → broken_field chain.newest r.fields ≡ None
-    → header_of after ≡ header_of chain → after.count ≡ chain.count + 1 → after.gate ≡ chain.gate + length image → after.newest ≡ Some r.fields → after.newest_at ≡ chain.gate + 1 → Keeps after (rs ++ r ∷ [])
-sync_gate_keeps chain after rs r image keeps spells room follows same count gate newest newest_at =
+    → header_of after ≡ header_of chain → after.count ≡ chain.count + 1 → after.gate ≡ chain.gate + length image → after.newest ≡ Some r.fields → after.newest_at ≡ chain.gate + 1 → TakesSpan chain after (length image) → Keeps after (rs ++ r ∷ [])
+sync_gate_keeps chain after rs r image keeps spells room follows same count gate newest newest_at spans =
     let k = keeps.count in
     let n = spells_length r image spells in
-    keeps_push chain after rs r keeps spells.is_image (ap (λ (o : Option Fields). broken_field o r.fields) (sym keeps.newest) ∙ follows) (omega arith) same count (omega arith) newest newest_at
+    keeps_push chain after rs r keeps spells.is_image (ap (λ (o : Option Fields). broken_field o r.fields) (sym keeps.newest) ∙ follows) (omega arith) same count (omega arith) newest newest_at (subst (TakesSpan chain after) (let e : length image ≡ image_length r = omega arith in e) spans)
 
 pub sync_gate_reads : {T E : Type 0} (chain : Current) (old new : View) (rs : List Image) (r : Image) (image : List ℕ) (result : Result T E) → IsTrue old.tells → Changes chain.file Sync result old new → IsMade chain.file Sync old new → IsDue chain old rs image SyncGate → Spells r image → Holds (header_of chain) (rs ++ r ∷ []) → IsDisk new
     → Lists chain (rs ++ r ∷ []) new.seen

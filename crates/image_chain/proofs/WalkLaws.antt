@@ -21,7 +21,7 @@ use Rattle.image_chain.specs.Append.{header_of, head, chained, chained_length, A
 use Rattle.image_chain.specs.Looking.{IsDamage}
 use Rattle.image_chain.specs.Walk.{with_front, Walked, Accepted, IsRefused}
 use Rattle.image_chain.proofs.ListLaws.{one_more, no_more}
-use Rattle.image_chain.proofs.StepLaws.{newest_push, order_push, images_push, length_push, chained_push, chained_length_push, length_chained}
+use Rattle.image_chain.proofs.StepLaws.{newest_push, spans_next, order_push, images_push, length_push, chained_push, chained_length_push, length_chained}
 use Rattle.image_chain.proofs.KeptLaws.{memory_push}
 
 -- ---- what is left after one record
@@ -141,6 +141,7 @@ walk_on old new kept now rs r file room n walked opened same is is_front one acc
         newest = accepted.newest ∙ sym (newest_push None rs r);
         gate = (let c = chained_length_push rs r in omega arith);
         newest_at = λ earlier q same_list. (let is_rs : rs ≡ earlier = (same_from_push rs earlier r q same_list).0 in accepted.newest_at ∙ (let e : old.gate + 1 ≡ 16 + chained_length rs = omega arith in e) ∙ ap (λ (l : List Image). 16 + chained_length l) is_rs);
+        spans = spans_next old new rs r walked.count walked.gate walked.spans accepted.spans;
         text = ap (take new.gate) whole ∙ take_at before (gate ∷ rest) new.gate size ∙ fronts;
         inside = omega arith;
         words = λ c. accepted.words c ∙ ap (option_or (word_in_runs r.runs c)) (walked.words c) ∙ sym (memory_push rs r c);

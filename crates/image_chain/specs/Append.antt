@@ -11,6 +11,7 @@ use Rattle.image_format.specs.declared.header.Header.{Header}
 use Rattle.image_format.specs.Image.{Image, IsImage, IsHeldHeader}
 use Rattle.image_format.specs.Spelling.{magic, text, spelling, image_length}
 use Rattle.image_chain.specs.declared.chain.Current.{Current}
+use Rattle.image_chain.specs.declared.chain.Span.{Span}
 use Rattle.image_chain.specs.declared.chain.Step.{Step}
 use Rattle.image_chain.specs.declared.chain.Step.TheVariants.{Piece, SyncRecord, OpenGate, SyncGate, Done}
 use Rattle.image_chain.specs.Records.{header_in, broken_field, newest_of}
@@ -43,6 +44,15 @@ abbrev pub IsNumbered : ℕ → Option Fields → Type 0
 IsNumbered ahead None = ahead ≤ 1
 IsNumbered ahead (Some newest) = ahead ≤ newest.number + 1
 
+-- where records stand, the first at this place
+abbrev pub spans_of : ℕ → List Image → List Span
+spans_of at [] = []
+spans_of at (r ∷ rs) = record { at = at; length = image_length r } ∷ spans_of (at + image_length r) rs
+
+-- one record more, of n bytes behind the last gate
+abbrev pub TakesSpan : Current → Current → ℕ → Type 0
+TakesSpan old new n = take (old.count + 1) new.spans ≡ take old.count old.spans ++ record { at = old.gate + 1; length = n } ∷ []
+
 -- what a chain keeps of its records
 pub record Keeps (chain : Current) (rs : List Image) : Type 0 where
   pub header : IsHeldHeader (header_of chain)
@@ -54,6 +64,7 @@ pub record Keeps (chain : Current) (rs : List Image) : Type 0 where
   pub newest : chain.newest ≡ newest_of None rs
   pub gate : chain.gate ≡ 15 + chained_length rs
   pub newest_at : (before : List Image) (r : Image) → rs ≡ before ++ r ∷ [] → chain.newest_at ≡ 16 + chained_length before
+  pub spans : take (length rs) chain.spans ≡ spans_of 16 rs
 
 -- what stands in the file of a chain before its last gate
 abbrev pub front : Current → List Image → List ℕ

@@ -10,3 +10,5 @@ pub mod Lists
 pub mod Looking
 -- how far the records of a file were read
 pub mod Walk
+-- the record that stands at a known place
+pub mod Shown

@@ -16,7 +16,7 @@ use Rattle.std.specs.Option.{option_or}
 use Rattle.image_chain.specs.declared.fault.ChainFault.{ChainFault}
 use Rattle.image_chain.specs.declared.fault.ChainFault.TheVariants.{Failed, Damaged}
 use Rattle.image_chain.specs.Memory.{Joined, memory, kept_word}
-use Rattle.image_chain.specs.Append.{header_of, front, chained_length, AreInOrder, Keeps, IsAside, other}
+use Rattle.image_chain.specs.Append.{header_of, front, chained_length, spans_of, TakesSpan, AreInOrder, Keeps, IsAside, other}
 use Rattle.image_chain.specs.declared.chain.Step.TheVariants.{Piece}
 use Rattle.image_chain.specs.Lists.{found_of, Rests}
 use Rattle.disk_model.specs.View.{View}
@@ -33,6 +33,7 @@ pub record Walked (current : Current) (kept : Joined) (rs : List Image) (file : 
   pub newest : current.newest ≡ newest_of None rs
   pub gate : current.gate ≡ 15 + chained_length rs
   pub newest_at : (before : List Image) (r : Image) → rs ≡ before ++ r ∷ [] → current.newest_at ≡ 16 + chained_length before
+  pub spans : take (length rs) current.spans ≡ spans_of 16 rs
   pub text : take current.gate file ≡ front current rs
   pub inside : current.gate < length file
   pub words : (c : ℕ) → kept_word kept c ≡ memory rs c
@@ -52,6 +53,7 @@ pub record Accepted (old new : Current) (kept now : Joined) (image : Image) : Ty
   pub count : new.count ≡ old.count + 1
   pub newest : new.newest ≡ Some image.fields
   pub newest_at : new.newest_at ≡ old.gate + 1
+  pub spans : TakesSpan old new (image_length image)
   pub gate : new.gate ≡ old.gate + image_length image
   pub words : (c : ℕ) → kept_word now c ≡ option_or (word_in_runs image.runs c) (kept_word kept c)
 

@@ -7,10 +7,10 @@ ghost use Rattle.disk_model.specs.Moments.{Among, LeavesOnly};
 ghost use Rattle.image_format.specs.Image.{Image};
 ghost use Rattle.image_format.specs.Spelling.{image_length};
 ghost use Rattle.image_chain.specs.Records.{broken_field};
-ghost use Rattle.image_chain.specs.Append.{header_of, IsDue, IsInside, SameCurrent, Spells, TakesOver, IfLast, next_of, due_after as step_after};
+ghost use Rattle.image_chain.specs.Append.{header_of, IsDue, IsInside, SameCurrent, Spells, TakesOver, TakesSpan, IfLast, next_of, due_after as step_after};
 ghost use Rattle.image_chain.specs.Lists.{Makes, IsAppended, Lists, Rests};
 
-use crate::chain::{Chain, Current, Step};
+use crate::chain::{Chain, Current, Span, Step};
 use ckpt_base::Failed;
 use disk_model::Disk;
 use image_format::{Fields, read_record};
@@ -193,10 +193,15 @@ fn take_over(chain: &mut Current, image: &[u8])
     ensures gate { chain.new.gate ≡ chain.old.gate + length image.now }
     ensures newest { (r : Image) → Spells r image.now → chain.new.newest ≡ Some r.fields }
     ensures newest_at { chain.new.newest_at ≡ chain.old.gate + 1 }
+    ensures spans { TakesSpan chain.old chain.new (length image.now) }
 {
     chain.newest = fields_of(image);
-    chain.count += 1;
     chain.newest_at = chain.gate + 1;
+    chain.spans[chain.count as usize] = Span {
+        at: chain.newest_at,
+        length: image.len(),
+    };
+    chain.count += 1;
     chain.gate += image.len() as u64;
 }
 

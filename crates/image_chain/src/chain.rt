@@ -1,4 +1,4 @@
-ghost use Rattle.std.specs.Prelude.{◌≡◌, ◌≤◌, ◌+◌, ◌*◌};
+ghost use Rattle.std.specs.Prelude.{◌≡◌, ◌≤◌, ◌+◌, ◌*◌, length};
 
 use disk_model::DiskFile;
 use image_format::Fields;
@@ -26,6 +26,15 @@ pub struct Chain {
     pub(crate) due: Step,
 }
 
+/// Where a record stands in its file, and how many bytes it has.
+#[derive(Clone, Copy)]
+pub struct Span {
+    pub(crate) at: u64,
+    pub(crate) length: usize,
+}
+
+pub(crate) const NO_SPANS: [Span; 64] = [Span { at: 0, length: 0 }; 64];
+
 /// What is kept of the current file.
 #[derive(Drop)]
 pub struct Current {
@@ -40,5 +49,7 @@ pub struct Current {
     /// The fields of the newest record, and the place at which it begins.
     pub(crate) newest: Option<Fields>,
     pub(crate) newest_at: u64,
-    ghost bounds: { (gate ≤ 15 + 3145837 * count) × (count ≤ max) × (max ≤ 64) },
+    /// Where each record stands; those past the count mean nothing.
+    pub(crate) spans: [Span; 64],
+    ghost bounds: { (gate ≤ 15 + 3145837 * count) × (count ≤ max) × (max ≤ 64) × (length spans ≡ 64) },
 }

@@ -13,7 +13,7 @@ ghost use Rattle.image_chain.specs.Looking.{IsDamage, Answers, RoseIfFailed, Onl
 ghost use Rattle.image_chain.specs.Walk.{Walked, Accepted, IsRefused, IsRead, IsFound, IsOpened, opened_as};
 
 use crate::append::OPEN_GATE;
-use crate::chain::{Chain, Current, Step};
+use crate::chain::{Chain, Current, NO_SPANS, Span, Step};
 use crate::fault::ChainFault;
 use crate::kept::Kept;
 use crate::look::{fetch, header_of};
@@ -110,6 +110,10 @@ fn accept(current: &mut Current, kept: &mut Kept, view: &ImageView<'_>) -> Resul
     kept.add(view);
     current.newest = Some(fields);
     current.newest_at = current.gate + 1;
+    current.spans[current.count as usize] = Span {
+        at: current.newest_at,
+        length: view.length(),
+    };
     current.gate += view.length() as u64;
     current.count += 1;
     Ok(())
@@ -211,6 +215,7 @@ fn read_chain<D: Disk>(
         gate: 15,
         newest: None,
         newest_at: 0,
+        spans: NO_SPANS,
     };
     walk(disk, &mut current, room, kept)?;
     if is_ahead(&current) {

@@ -1,5 +1,5 @@
 //! What a chain tells, and its records.
-ghost use Rattle.std.specs.Prelude.{◌≡◌, ◌<◌, ◌≤◌, ◌+◌, ◌↔◌, ℕ, List, ◌∷◌, [], ◌++◌, length, take, drop, slice_index, IsTrue, IfOk, IfErr, Option, Some, None, Ok};
+ghost use Rattle.std.specs.Prelude.{◌≡◌, ◌<◌, ◌≤◌, ◌+◌, ℕ, List, ◌∷◌, [], ◌++◌, length, take, IsTrue, IfOk, IfErr, Option, Some, None, Ok};
 ghost use Rattle.disk_model.specs.Store.{Store, file_of};
 ghost use Rattle.image_format.specs.Image.{Image};
 ghost use Rattle.image_format.specs.Spelling.{image_length};
@@ -7,11 +7,14 @@ ghost use Rattle.image_format.specs.Reading.{image_at};
 ghost use Rattle.image_chain.specs.Records.{record_in, newest_of};
 ghost use Rattle.image_chain.specs.Append.{chained_length, header_of};
 ghost use Rattle.image_chain.specs.Lists.{Lists, Rests};
-ghost use Rattle.image_chain.specs.Looking.{IsDamage, OnlyLooked, RoseIfFailed};
+ghost use Rattle.image_chain.specs.Looking.{OnlyLooked, RoseIfFailed};
+ghost use Rattle.image_chain.specs.Shown.{IsRecordOf, IsNoRecord, IsShown, StandsAt, ShowsRecord, place_in, span_at};
 
-use crate::chain::Chain;
+use crate::chain::{Chain, Span, Step};
+use crate::fault::ChainFault;
+use crate::room::{ChainRoom, RECORD_BYTES};
 use disk_model::{Disk, DiskFile};
-use image_format::Fields;
+use image_format::{Fields, read_record};
 
 impl Chain {
     /// How many records there are.
@@ -66,6 +69,35 @@ impl Chain {
         self.current.newest_at
     }
 
+    /// Reads record `i`, counted from 0, into the room and answers its length. No record is under way.
+    ///
+    /// `Damaged` comes exactly where the bytes that are read are no record of the length that record `i` has.
+    pub fn record_at<D: Disk>(
+        &self,
+        disk: &mut D,
+        i: u16,
+        room: &mut ChainRoom,
+    ) -> Result<usize, ChainFault>
+        requires i { i < self.now.current.count }
+        requires rest { self.now.due ≡ Step.Piece 0 }
+        ensures answer { IfOk result (λ n. IsRecordOf n (take n room.new)) }
+        ensures damaged { IfErr result (λ e. IsNoRecord e self.now.current.file (span_at self.now i) room.new) }
+        ensures told { ShowsRecord self.now (D.view disk.old) i result room.new }
+        ensures looked { OnlyLooked (D.view disk.old) (D.view disk.new) }
+        ensures failed { IfErr result (λ e. RoseIfFailed e (D.view disk.old).faults (D.view disk.new).faults) }
+    {
+        let span = self.span_of(i);
+        read_span(disk, self.current.file, span, room)
+    }
+
+    // Where record `i` stands.
+    fn span_of(&self, i: u16) -> Span
+        requires i { i < self.now.current.count }
+        ensures { result ≡ span_at self.now i }
+    {
+        self.current.spans[i as usize]
+    }
+
     /// What a chain at rest tells of its records, and what reads and crashes give of it.
     pub fn tells<D: Disk>(&self, disk: &D)
         ensures count { IsTrue (D.view disk.now).tells → (rs : List Image) → Rests self.now (D.view disk.now) rs → self.now.current.count ≡ length rs }
@@ -74,4 +106,38 @@ impl Chain {
         ensures reads { IsTrue (D.view disk.now).tells → (rs : List Image) → Rests self.now (D.view disk.now) rs → Lists self.now.current rs (D.view disk.now).seen }
         ensures lasting { IsTrue (D.view disk.now).tells → (rs : List Image) → Rests self.now (D.view disk.now) rs → (c : Store) → (D.view disk.now).may_leave c → Lists self.now.current rs c }
     {}
+}
+
+// Reads the record at a span.
+fn read_span<D: Disk>(
+    disk: &mut D,
+    file: DiskFile,
+    span: Span,
+    room: &mut ChainRoom,
+) -> Result<usize, ChainFault>
+    ensures answer { IfOk result (λ n. IsRecordOf n (take n room.new)) }
+    ensures damaged { IfErr result (λ e. IsNoRecord e file span room.new) }
+    ensures told { IsTrue (D.view disk.old).tells → (r : Image) → StandsAt span r (file_of file (D.view disk.old).seen) → IsShown result r room.new }
+    ensures looked { OnlyLooked (D.view disk.old) (D.view disk.new) }
+    ensures failed { IfErr result (λ e. RoseIfFailed e (D.view disk.old).faults (D.view disk.new).faults) }
+{
+    let n = room.fill(disk, file, span.at, span.length.min(RECORD_BYTES))?;
+    let view = match read_record(&room.bytes()[..n]) {
+        Ok(view) => view,
+        Err(bad) => return Err(no_record(file, &span, bad.place)),
+    };
+    if view.length() != span.length {
+        return Err(no_record(file, &span, 1));
+    }
+    Ok(n)
+}
+
+// The damage of a record from its byte `place` on.
+fn no_record(file: DiskFile, span: &Span, place: usize) -> ChainFault
+    ensures { result ≡ ChainFault.Damaged file (place_in span.now place) }
+{
+    ChainFault::Damaged {
+        file,
+        place: span.at.saturating_add(place as u64),
+    }
 }

@@ -9,7 +9,7 @@ ghost use Rattle.image_chain.specs.Records.{chain_in};
 ghost use Rattle.image_chain.specs.Append.{IsAtRest};
 ghost use Rattle.image_chain.specs.Lists.{IsKept, HasNone, IsSettled, Rests};
 
-use crate::chain::{Chain, Current, Step};
+use crate::chain::{Chain, Current, NO_SPANS, Step};
 use ckpt_base::Failed;
 use disk_model::{Disk, DiskFile};
 use image_format::{Header, write_header};
@@ -47,6 +47,7 @@ impl Chain {
                 gate: 15,
                 newest: None,
                 newest_at: 0,
+                spans: NO_SPANS,
             },
             due: Step::Piece(0),
         })

@@ -16,7 +16,7 @@ returns-clause-makes g c = λ tells rs r spells due.
     let holds = due_holds c.args.chain.now rs r c.args.image.now due.keeps spells c.requires.room (c.requires.follows r spells) in
     let made = c.in_ok-sync.ensures.answer.does tells in
     let o = c.take_over.ensures in
-    let keeps = sync_gate_keeps c.args.chain.now c.take_over.new.chain rs r c.args.image.now due.keeps spells c.requires.room (c.requires.follows r spells) o.header o.count o.gate (o.newest r spells) o.newest_at in
+    let keeps = sync_gate_keeps c.args.chain.now c.take_over.new.chain rs r c.args.image.now due.keeps spells c.requires.room (c.requires.follows r spells) o.header o.count o.gate (o.newest r spells) o.newest_at o.spans in
     let rest = sync_gate_rest c.args.chain.now c.take_over.new.chain _ _ rs r c.args.image.now c.sync.result tells c.sync.ensures.answer made due spells o.file o.header keeps in
     record {
       due = (due.behind, rest);

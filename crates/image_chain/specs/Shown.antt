@@ -1,0 +1,50 @@
+-- The record that stands at a known place.
+use Rattle.std.specs.Prelude.{◌≡◌, ◌≢◌, ℕ, ◌+◌, ◌-◌, ◌^◌, ◌<◌, ◌≤◌, min, get_or, List, ◌∷◌, ◌++◌, length, take, drop, IsTrue, Result, Ok, Err}
+use Rattle.disk_model.specs.declared.disk_file.DiskFile.{DiskFile}
+use Rattle.disk_model.specs.View.{View}
+use Rattle.image_format.specs.Image.{Image}
+use Rattle.image_format.specs.Spelling.{image_length}
+use Rattle.image_format.specs.Reading.{image_at}
+use Rattle.image_chain.specs.declared.chain.Chain.{Chain}
+use Rattle.image_chain.specs.declared.chain.Span.{Span}
+use Rattle.image_chain.specs.declared.fault.ChainFault.{ChainFault}
+use Rattle.image_chain.specs.declared.fault.ChainFault.TheVariants.{Failed, Damaged}
+use Rattle.image_chain.specs.Lists.{Rests}
+
+-- where record i stands, counted from 0
+abbrev pub span_at : Chain → ℕ → Span
+span_at chain i = get_or chain.current.spans i (record { at = 0; length = 0 })
+
+-- the bytes are a record of n bytes
+abbrev pub IsRecordOf : ℕ → List ℕ → Type 0
+IsRecordOf n bytes = (r : Image) × (image_at bytes ≡ Ok r) × (image_length r ≡ n)
+
+-- the place of a byte of a record in its file; there is none past 2^64 - 1
+abbrev pub place_in : Span → ℕ → ℕ
+place_in span p = min (span.at + p) (2 ^ 64 - 1)
+
+-- what was read is no record, from this place on; or it is one of another length
+abbrev pub IsBadAt : ℕ → Span → Result Image ℕ → Type 0
+IsBadAt place span (Ok r) = (image_length r ≢ span.length) × (place ≡ place_in span 1)
+IsBadAt place span (Err p) = place ≡ place_in span p
+
+-- the damage of the file at a span, by the bytes that were read into the room
+abbrev pub IsNoRecord : ChainFault → DiskFile → Span → List ℕ → Type 0
+IsNoRecord Failed file span room = Unit {0}
+IsNoRecord (Damaged f place) file span room = (f ≡ file) × ((n : ℕ) × (n ≤ span.length) × IsBadAt place span (image_at (take n room)))
+
+-- the record stands in the file at a span
+pub record StandsAt (span : Span) (r : Image) (file : List ℕ) : Type 0 where
+  pub size : span.length ≡ image_length r
+  pub short : span.length ≤ 3145837
+  pub text : image_at (take span.length (drop span.at file)) ≡ Ok r
+
+-- the call answers the length of the record, which is in the room, unless a call on the disk failed
+abbrev pub IsShown : Result ℕ ChainFault → Image → List ℕ → Type 0
+IsShown (Ok n) r room = (n ≡ image_length r) × (image_at (take n room) ≡ Ok r)
+IsShown (Err Failed) r room = Unit {0}
+IsShown (Err (Damaged f place)) r room = ⊥
+
+-- where a chain at rest has a record behind i others, that record is shown
+abbrev pub ShowsRecord : Chain → View → ℕ → Result ℕ ChainFault → List ℕ → Type 0
+ShowsRecord chain v i result room = IsTrue v.tells → (before : List Image) (r : Image) (after : List Image) → length before ≡ i → Rests chain v (before ++ r ∷ after) → IsShown result r room
