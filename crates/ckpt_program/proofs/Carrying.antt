@@ -40,8 +40,8 @@ accepted_before input until tree a b c (outcome.Refused r) same count comes = co
 pub evaluated : (source input : List ℕ) (until : ℕ) (tree : Resolved) (a b c : ShelfView) (o : Outcome) → HasSource a source tree → SameShelf a b → b.faults ≡ a.faults → ComesAccepted input until tree b c o → Evaluates source input until a c o
 evaluated source input until tree a b c o has same count comes = inr (tree, has, accepted_before input until tree a b c o same count comes)
 
-pub counted : (source : List ℕ) (tree : Resolved) (old new : ShelfView) (c : Counts) → HasSource old source tree → new.faults ≡ old.faults → IsCounted tree c → Accepts source old new (outcome.Accepted c)
-counted source tree old new c has same is = ((tree, has, is), same)
+pub counted : (source : List ℕ) (held tree : Resolved) (old new : ShelfView) (c : Counts) → held ≡ tree → HasSource old source tree → new.faults ≡ old.faults → IsCounted held c → Accepts source old new (outcome.Accepted c)
+counted source held tree old new c same has kept is = ((tree, has, subst (λ (t : Resolved). IsCounted t c) same is), kept)
 
 -- ---- a command
 
