@@ -80,6 +80,8 @@ impl Chain {
     ) -> Result<usize, ChainFault>
         requires i { i < self.now.current.count }
         requires rest { self.now.due ≡ Step.Piece 0 }
+        ensures length { IfOk result (λ n. n ≡ (span_at self.now i).length) }
+        ensures most { IfOk result (λ n. n ≤ 3145837) }
         ensures answer { IfOk result (λ n. IsRecordOf n (take n room.new)) }
         ensures damaged { IfErr result (λ e. IsNoRecord e self.now.current.file (span_at self.now i) room.new) }
         ensures told { ShowsRecord self.now (D.view disk.old) i result room.new }
@@ -115,6 +117,8 @@ fn read_span<D: Disk>(
     span: Span,
     room: &mut ChainRoom,
 ) -> Result<usize, ChainFault>
+    ensures length { IfOk result (λ n. n ≡ span.length) }
+    ensures most { IfOk result (λ n. n ≤ 3145837) }
     ensures answer { IfOk result (λ n. IsRecordOf n (take n room.new)) }
     ensures damaged { IfErr result (λ e. IsNoRecord e file span room.new) }
     ensures told { IsTrue (D.view disk.old).tells → (r : Image) → StandsAt span r (file_of file (D.view disk.old).seen) → IsShown result r room.new }
