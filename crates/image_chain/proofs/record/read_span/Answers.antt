@@ -1,6 +1,6 @@
-use Rattle.std.proofs.Common.{rules, arith, ◌≡◌, sym, ◌∙◌, ap, subst, ℕ, ◌≤◌, List, take, Ok}
+use Rattle.std.proofs.Common.{arith, ◌≡◌, sym, ◌∙◌, ap, ℕ, List, take}
 use Rattle.std.proofs.lemmas.List.{length-take}
-use Rattle.image_format.specs.Spelling.{image_length, IsFront}
+use Rattle.image_format.specs.Spelling.{image_length}
 use Rattle.image_format.specs.Reading.{image_at}
 use Rattle.image_chain.proofs.WalkLaws.{record_inside}
 use Rattle.image_chain.proofs.ShownLaws.{shown}

@@ -1,4 +1,4 @@
-use Rattle.std.proofs.Common.{◌≡◌, ◌∙◌, ap, ℕ, List}
+use Rattle.std.proofs.Common.{◌∙◌, ap, ℕ, List}
 use Rattle.disk_model.specs.MemoryDisk.{empty_disk}
 use Rattle.image_chain.proofs.tests.an_appended_record_is_read_again.Goals as goal
 
