@@ -1,11 +1,9 @@
 //! What a chain tells, and its records.
-ghost use Rattle.std.specs.Prelude.{◌≡◌, ◌<◌, ◌≤◌, ◌+◌, ℕ, List, ◌∷◌, [], ◌++◌, length, take, IsTrue, IfOk, IfErr, Option, Some, None, Ok};
+ghost use Rattle.std.specs.Prelude.{◌≡◌, ◌<◌, ◌≤◌, ◌+◌, List, ◌∷◌, [], ◌++◌, length, take, IsTrue, IfOk, IfErr, Option, None, Ok};
 ghost use Rattle.disk_model.specs.Store.{Store, file_of};
 ghost use Rattle.image_format.specs.Image.{Image};
-ghost use Rattle.image_format.specs.Spelling.{image_length};
-ghost use Rattle.image_format.specs.Reading.{image_at};
-ghost use Rattle.image_chain.specs.Records.{record_in, newest_of};
-ghost use Rattle.image_chain.specs.Append.{chained_length, header_of};
+ghost use Rattle.image_chain.specs.Records.{newest_of};
+ghost use Rattle.image_chain.specs.Append.{chained_length};
 ghost use Rattle.image_chain.specs.Lists.{Lists, Rests};
 ghost use Rattle.image_chain.specs.Looking.{OnlyLooked, RoseIfFailed};
 ghost use Rattle.image_chain.specs.Shown.{IsRecordOf, IsNoRecord, IsShown, StandsAt, ShowsRecord, place_in, span_at};
