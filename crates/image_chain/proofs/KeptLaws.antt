@@ -1,5 +1,5 @@
 -- The joined content of records.
-use Rattle.std.proofs.Common.{◌≡◌, ◌≢◌, ◌⊎◌, inl, inr, ⊎_elim, refl, sym, ◌∙◌, ap, subst, ℕ, zero, suc, ◌+◌, ◌-◌, ◌*◌, ◌<◌, ◌≤◌, ◌==◌, nat_le, nat_lt, ◌&&◌, Bool, true, false, cond, List, [], ◌∷◌, ◌++◌, length, get_or, replicate, Option, Some, None, arith}
+use Rattle.std.proofs.Common.{◌≡◌, ◌≢◌, ⊎_elim, refl, sym, ◌∙◌, ap, ℕ, ◌+◌, ◌-◌, ◌<◌, ◌≤◌, ◌==◌, nat_le, nat_lt, ◌&&◌, Bool, true, false, cond, List, [], ◌∷◌, ◌++◌, length, replicate, Option, Some, None, arith}
 use Rattle.std.specs.Prelude.{slice_index, slice_index_or, slice_get, if◌then◌else◌}
 use Rattle.std.specs.Option.{option_or}
 use Rattle.std.proofs.Math.ListN.{set}
@@ -7,10 +7,10 @@ use Rattle.std.proofs.lemmas.Bool.{cases_lt, cases_eq}
 use Rattle.std.proofs.lemmas.Bool.Decides.{nat_tests}
 use Rattle.std.proofs.lemmas.List.{get_or-replicate, get_or_past, get_or-set_same, get_or-set_other, length-replicate}
 use Rattle.std.proofs.lemmas.Option.{slice_get_past, slice_get-get_or}
-use Rattle.page_frames.specs.Words.{eight, word_at, words_from, words_of}
-use Rattle.page_frames.proofs.Words.{length_words, get_words, word_eight}
+use Rattle.page_frames.specs.Words.{word_at, words_of}
+use Rattle.page_frames.proofs.Words.{length_words, get_words}
 use Rattle.image_format.specs.Image.{WordRun, Image, AreRuns, word_in_run, word_in_runs}
-use Rattle.image_chain.specs.Memory.{memory, Joined, joined, kept_word}
+use Rattle.image_chain.specs.Memory.{memory, joined, kept_word}
 
 -- nothing is listed at first
 pub none_listed : (n : ℕ) (words : List ℕ) (listed : List Bool) (c : ℕ) → listed ≡ replicate n false → kept_word (joined words listed) c ≡ None

@@ -1,5 +1,5 @@
 -- The records that stand in a store are found there.
-use Rattle.std.proofs.Common.{◌≡◌, ◌≢◌, ◌⊎◌, inl, inr, ⊎_elim, refl, sym, ◌∙◌, ap, subst, ℕ, zero, suc, ◌+◌, ◌-◌, ◌<◌, ◌≤◌, nat_lt, ◌==◌, Bool, true, false, cond, List, [], ◌∷◌, ◌++◌, length, take, drop, get_or, Option, Some, None, Result, Ok, Err, arith, append_assoc, length-append}
+use Rattle.std.proofs.Common.{◌≡◌, ◌≢◌, ◌⊎◌, inl, inr, refl, sym, ◌∙◌, ap, ℕ, zero, suc, ◌+◌, ◌<◌, ◌≤◌, nat_lt, ◌==◌, Bool, true, false, cond, List, [], ◌∷◌, ◌++◌, length, take, drop, Option, Some, None, Result, Ok, Err, arith, append_assoc, length-append}
 use Rattle.std.specs.Prelude.{slice_index}
 use Rattle.std.specs.List.{AllByRecursion}
 use Rattle.std.proofs.lemmas.Bool.Decides.{nat_tests}
@@ -16,8 +16,8 @@ use Rattle.image_format.proofs.RecordLaws.{text_length, image_short}
 use Rattle.image_format.proofs.ViewLaws.{image_only}
 use Rattle.image_format.proofs.HeaderLaws.{header_only}
 use Rattle.image_chain.specs.declared.chain.Current.{Current}
-use Rattle.image_chain.specs.Records.{Damage, header_in, only_open, newer, broken_field, in_order, located, record_in, records_at, newest_of, in_number, Found, found_in, chain_in}
-use Rattle.image_chain.specs.Append.{header_of, head, chained, chained_length, AreInOrder, IsNumbered, Keeps, front, other, IsAside}
+use Rattle.image_chain.specs.Records.{Damage, header_in, only_open, newer, broken_field, in_order, located, record_in, records_at, newest_of, in_number, found_in, chain_in}
+use Rattle.image_chain.specs.Append.{header_of, head, chained, AreInOrder, IsNumbered, Keeps, front, other, IsAside}
 use Rattle.image_chain.specs.Lists.{found_of, Lists}
 
 -- ---- one record

@@ -1,11 +1,10 @@
 -- Looking at the files of a store.
-use Rattle.std.proofs.Common.{◌≡◌, ◌⊎◌, inl, inr, ⊎_elim, refl, sym, ◌∙◌, ap, subst, ℕ, zero, suc, ◌+◌, ◌-◌, ◌<◌, ◌≤◌, min, nat_lt, Bool, true, false, cond, List, [], ◌∷◌, ◌++◌, length, take, drop, Option, Some, None, Result, Ok, Err, arith, append_assoc, length-drop, take-append-drop}
+use Rattle.std.proofs.Common.{◌≡◌, refl, sym, ◌∙◌, ap, subst, ℕ, ◌+◌, ◌<◌, ◌≤◌, min, nat_lt, Bool, true, false, cond, List, [], ◌∷◌, ◌++◌, length, take, drop, Option, Some, None, Result, Ok, Err, arith, append_assoc, length-drop, take-append-drop}
 use Rattle.std.proofs.lemmas.Bool.Decides.{nat_tests}
-use Rattle.std.proofs.lemmas.List.{take-take, take_all, take_min, take_at}
+use Rattle.std.proofs.lemmas.List.{take-take, take_all, take_min}
 use Rattle.disk_model.specs.declared.disk_file.DiskFile.{DiskFile}
 use Rattle.disk_model.specs.View.{Takes}
 use Rattle.image_format.specs.declared.header.Header.{Header}
-use Rattle.image_format.specs.Image.{Image, IsImage}
 use Rattle.image_format.specs.Spelling.{spelling, IsFront}
 use Rattle.image_format.specs.Reading.{◌>>=◌, header_at, image_at}
 use Rattle.image_format.proofs.ViewLaws.{image_only}

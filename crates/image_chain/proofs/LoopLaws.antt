@@ -1,10 +1,9 @@
 -- An append goes on from step to step.
-use Rattle.std.proofs.Common.{◌≡◌, ◌≢◌, ◌⊎◌, Bool, true, false, cond, nat_lt, inl, inr, refl, sym, ◌∙◌, ap, subst, ℕ, zero, suc, ◌+◌, ◌-◌, ◌*◌, ◌<◌, ◌≤◌, IsTrue, List, [], ◌∷◌, ◌++◌, length, take, Result, Ok, arith}
+use Rattle.std.proofs.Common.{◌≡◌, ◌≢◌, Bool, true, false, cond, nat_lt, inl, inr, refl, sym, ◌∙◌, ap, subst, ℕ, ◌+◌, ◌-◌, ◌*◌, ◌<◌, ◌≤◌, IsTrue, List, length, take, Result, Ok, arith}
 use Rattle.std.proofs.lemmas.Bool.{cases_lt}
 use Rattle.std.proofs.lemmas.Bool.Decides.{nat_tests}
 use Rattle.ckpt_base.specs.declared.errors.Failed.{Failed}
-use Rattle.disk_model.specs.declared.disk_file.DiskFile.{DiskFile}
-use Rattle.disk_model.specs.Store.{Store, file_of}
+use Rattle.disk_model.specs.Store.{Store}
 use Rattle.disk_model.specs.View.{View, IsDisk}
 use Rattle.disk_model.specs.Moments.{Among, LeavesOnly}
 use Rattle.disk_model.proofs.Calls.{still, joined}
@@ -12,8 +11,8 @@ use Rattle.image_format.specs.Image.{Image}
 use Rattle.image_chain.specs.declared.chain.Current.{Current}
 use Rattle.image_chain.specs.declared.chain.Step.{Step}
 use Rattle.image_chain.specs.declared.chain.Step.TheVariants.{Piece, SyncRecord, OpenGate, SyncGate, Done}
-use Rattle.image_chain.specs.Append.{front, Keeps, IsAtRest, IsDue, Stands, Spells, IsInside, IsInsideOrDone, SameCurrent, TakesOver, IfLast, next_of, due_after, left_to_do}
-use Rattle.image_chain.specs.Lists.{Lists, IsKept, IsAppended, IsLeftIn, Makes, SoFar}
+use Rattle.image_chain.specs.Append.{front, IsAtRest, IsDue, Stands, Spells, IsInside, IsInsideOrDone, SameCurrent, TakesOver, IfLast, next_of, due_after, left_to_do}
+use Rattle.image_chain.specs.Lists.{Lists, IsAppended, IsLeftIn, Makes, SoFar}
 use Rattle.image_chain.proofs.ListLaws.{holds_of, lists_of}
 use Rattle.image_chain.proofs.StepLaws.{front_and_gate}
 

@@ -1,10 +1,10 @@
 -- The chain that is opened.
-use Rattle.std.proofs.Common.{◌≡◌, ◌≢◌, ◌⊎◌, inl, inr, ⊎_elim, refl, sym, ◌∙◌, ap, subst, ℕ, zero, suc, ◌+◌, ◌-◌, ◌<◌, ◌≤◌, ◌==◌, nat_lt, Bool, true, false, cond, IsTrue, List, [], ◌∷◌, ◌++◌, length, take, drop, Option, Some, None, Result, Ok, Err, arith}
+use Rattle.std.proofs.Common.{◌≡◌, ◌≢◌, ◌⊎◌, inl, inr, ⊎_elim, refl, sym, ◌∙◌, ap, subst, ℕ, ◌+◌, ◌<◌, ◌≤◌, ◌==◌, nat_lt, Bool, true, false, cond, IsTrue, List, [], ◌∷◌, length, drop, Option, Some, None, Result, Ok, Err, arith}
 use Rattle.std.specs.Prelude.{slice_index}
 use Rattle.std.proofs.lemmas.Bool.Decides.{nat_tests}
 use Rattle.disk_model.specs.declared.disk_file.DiskFile.{DiskFile}
 use Rattle.disk_model.specs.declared.disk_file.DiskFile.TheVariants.{Output, One, Two}
-use Rattle.disk_model.specs.Store.{Store, file_of, with_file}
+use Rattle.disk_model.specs.Store.{Store, file_of}
 use Rattle.disk_model.specs.Change.{Sync}
 use Rattle.disk_model.specs.View.{View, IsDisk, IsMade, Changes}
 use Rattle.disk_model.specs.Moments.{LeavesOnly}
@@ -19,7 +19,7 @@ use Rattle.image_chain.specs.declared.fault.ChainFault.{ChainFault}
 use Rattle.image_chain.specs.declared.fault.ChainFault.TheVariants.{Failed, Damaged}
 use Rattle.image_chain.specs.Records.{Damage, header_in, only_open, newer, records_at, newest_of, in_number, Found, found_in, chain_in}
 use Rattle.image_chain.specs.Memory.{Joined}
-use Rattle.image_chain.specs.Append.{header_of, IsNumbered, Keeps, front, other, IsAside}
+use Rattle.image_chain.specs.Append.{header_of, IsNumbered, other, IsAside}
 use Rattle.image_chain.specs.Lists.{found_of, Rests}
 use Rattle.image_chain.specs.Looking.{IsDamage, OnlyLooked}
 use Rattle.image_chain.specs.Walk.{Walked, IsRead, IsReadFrom, IsFound, IsOpened, opened_as}

@@ -1,8 +1,8 @@
 -- The record that stands at a known place.
-use Rattle.std.proofs.Common.{◌≡◌, refl, sym, ◌∙◌, ap, subst, ℕ, zero, suc, ◌+◌, ◌<◌, ◌≤◌, min, List, [], ◌∷◌, ◌++◌, length, take, drop, get_or, Result, Ok, Err, arith, append_assoc, length-append}
+use Rattle.std.proofs.Common.{◌≡◌, refl, sym, ◌∙◌, ap, subst, ℕ, ◌+◌, ◌<◌, ◌≤◌, List, [], ◌∷◌, ◌++◌, length, take, drop, get_or, Ok, arith, append_assoc, length-append}
 use Rattle.std.specs.List.{AllByRecursion}
 use Rattle.std.proofs.lemmas.List.{append-nil, take_at, get_or-take}
-use Rattle.disk_model.specs.Store.{Store, file_of}
+use Rattle.disk_model.specs.Store.{file_of}
 use Rattle.disk_model.specs.View.{View}
 use Rattle.image_format.specs.declared.header.Header.{Header}
 use Rattle.image_format.specs.Image.{Image, IsImage}
@@ -11,9 +11,8 @@ use Rattle.image_format.specs.Reading.{image_at}
 use Rattle.image_format.proofs.RecordLaws.{text_length, image_short}
 use Rattle.image_format.proofs.ViewLaws.{image_only}
 use Rattle.image_chain.specs.declared.chain.Chain.{Chain}
-use Rattle.image_chain.specs.declared.chain.Current.{Current}
 use Rattle.image_chain.specs.declared.chain.Span.{Span}
-use Rattle.image_chain.specs.Append.{header_of, head, chained, chained_length, spans_of, front}
+use Rattle.image_chain.specs.Append.{header_of, head, chained, chained_length, spans_of}
 use Rattle.image_chain.specs.Lists.{Rests}
 use Rattle.image_chain.specs.Shown.{StandsAt, span_at}
 use Rattle.image_chain.proofs.ListLaws.{behind_gate, next_gate}

@@ -1,24 +1,22 @@
 -- A chain that begins, and one that is settled.
-use Rattle.std.proofs.Common.{◌≡◌, ◌≢◌, ◌⊎◌, inl, inr, ⊎_elim, refl, sym, ◌∙◌, ap, subst, ℕ, zero, suc, ◌+◌, ◌-◌, ◌<◌, ◌≤◌, ◌^◌, ◌==◌, nat_lt, Bool, true, false, cond, min, IsTrue, List, [], ◌∷◌, ◌++◌, length, take, drop, Option, Some, None, Result, Ok, Err, arith, append_assoc, length-append, length-take, take-append-drop}
-use Rattle.std.proofs.lemmas.List.{append-nil, take_at, drop_at, take_all, take-take}
+use Rattle.std.proofs.Common.{◌≡◌, ◌≢◌, ⊎_elim, refl, sym, ◌∙◌, ap, subst, ℕ, ◌+◌, ◌<◌, ◌≤◌, ◌^◌, ◌==◌, nat_lt, Bool, true, false, cond, IsTrue, List, [], ◌∷◌, ◌++◌, length, take, drop, Option, Some, None, Result, Ok, Err, arith, append_assoc, length-append, take-append-drop}
+use Rattle.std.proofs.lemmas.List.{append-nil, take_at, take-take}
 use Rattle.disk_model.specs.declared.disk_file.DiskFile.{DiskFile}
 use Rattle.disk_model.specs.declared.disk_file.DiskFile.TheVariants.{Output, One, Two}
 use Rattle.disk_model.specs.Store.{Store, file_of, with_file}
-use Rattle.disk_model.specs.Change.{Change, Cut, Sync, Start, whole, Shortened, Crashed}
+use Rattle.disk_model.specs.Change.{Cut, Sync, Start, Shortened}
 use Rattle.disk_model.specs.View.{View, IsDisk, On, IsMade, Changes}
 use Rattle.disk_model.specs.Moments.{Among, LeavesOnly}
-use Rattle.disk_model.proofs.Calls.{file_of-with_file, changed, still, joined, after_change, made_seen, made_leaves}
+use Rattle.disk_model.proofs.Calls.{changed, still, joined, after_change, made_seen, made_leaves}
 use Rattle.image_format.specs.declared.header.Header.{Header}
 use Rattle.image_format.specs.Image.{Image, IsHeldHeader}
-use Rattle.image_format.specs.Spelling.{is_open, header_bytes}
 use Rattle.image_format.specs.Reading.{◌>>=◌}
-use Rattle.image_chain.specs.declared.chain.Chain.{Chain}
 use Rattle.image_chain.specs.declared.chain.Current.{Current}
 use Rattle.image_chain.specs.Records.{Damage, header_in, only_open, newer, in_number, newest_of, records_at, Found, found_in, chain_in}
-use Rattle.image_chain.specs.Append.{header_of, head, chained, Keeps, front, other, IsAside, Alone, IsAtRest}
-use Rattle.image_chain.specs.Lists.{Lists, IsKept, HasNone}
-use Rattle.image_chain.proofs.ListLaws.{Holds, holds_of, lists_of, found_store}
-use Rattle.image_chain.proofs.StepLaws.{IsBefore, kept_moments, alone_after, length_front, gate_place}
+use Rattle.image_chain.specs.Append.{header_of, head, Keeps, front, other, IsAside, Alone, IsAtRest}
+use Rattle.image_chain.specs.Lists.{IsKept, HasNone}
+use Rattle.image_chain.proofs.ListLaws.{Holds, found_store}
+use Rattle.image_chain.proofs.StepLaws.{IsBefore, kept_moments, alone_after, gate_place}
 
 -- ---- a store without a chain
 

@@ -1,17 +1,16 @@
 -- What each step of an append leaves.
-use Rattle.std.proofs.Common.{◌≡◌, ◌≢◌, ◌⊎◌, inl, inr, ⊎_elim, refl, sym, ◌∙◌, ap, subst, ℕ, zero, suc, ◌+◌, ◌-◌, ◌*◌, ◌<◌, ◌≤◌, ◌==◌, nat_le, nat_lt, not, Bool, true, false, cond, min, IsTrue, List, [], ◌∷◌, ◌++◌, length, take, drop, get_or, Option, Some, None, Result, Ok, Err, arith, append_assoc, length-append, length-drop, length-take, take-append-drop}
+use Rattle.std.proofs.Common.{◌≡◌, ◌≢◌, ◌⊎◌, inl, inr, ⊎_elim, refl, sym, ◌∙◌, ap, subst, ℕ, suc, ◌+◌, ◌-◌, ◌*◌, ◌<◌, ◌≤◌, ◌==◌, nat_le, nat_lt, not, Bool, true, false, cond, IsTrue, List, [], ◌∷◌, ◌++◌, length, take, drop, get_or, Option, Some, None, Result, Ok, Err, arith, append_assoc, length-append, length-take, take-append-drop}
 use Rattle.std.specs.List.{AllByRecursion}
 use Rattle.std.specs.Str.{bytes_eq}
 use Rattle.std.proofs.lemmas.Bool.{cases_eq, eqb-true}
-use Rattle.std.proofs.lemmas.Bool.Decides.{nat_tests}
-use Rattle.std.proofs.lemmas.List.{append-nil, take_at, drop_at, take_all, drop_all, take-take, drop_more, drop-take, drop-drop, same_from_push}
+use Rattle.std.proofs.lemmas.List.{append-nil, take_at, drop_at, take_all, take-take, drop_more, drop-take, drop-drop, same_from_push}
 use Rattle.disk_model.specs.declared.disk_file.DiskFile.{DiskFile}
 use Rattle.disk_model.specs.declared.disk_file.DiskFile.TheVariants.{Output, One, Two}
 use Rattle.disk_model.specs.Store.{Store, file_of, with_file}
 use Rattle.disk_model.specs.Change.{Change, Write, Sync, whole, Torn, Crashed}
 use Rattle.disk_model.specs.View.{View, IsDisk, On, IsMade, Changes}
 use Rattle.disk_model.specs.Moments.{Among, LeavesOnly}
-use Rattle.disk_model.proofs.Calls.{file_of-with_file, with_file-same, changed, weaken, one_change, made_seen, made_leaves, other_file}
+use Rattle.disk_model.proofs.Calls.{file_of-with_file, changed, weaken, one_change, made_seen, made_leaves, other_file}
 use Rattle.image_format.specs.declared.fields.Fields.{Fields}
 use Rattle.image_format.specs.declared.header.Header.{Header}
 use Rattle.image_format.specs.Image.{Image, IsImage, IsHeldHeader}

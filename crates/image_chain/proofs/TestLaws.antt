@@ -1,5 +1,5 @@
 -- A disk in memory that is empty has no chain.
-use Rattle.std.proofs.Common.{◌≡◌, ◌⊎◌, inl, inr, refl, ◌∙◌, ap, subst, ℕ, List, [], ◌∷◌, Option, None, Result, Ok, Err, IfOk, arith}
+use Rattle.std.proofs.Common.{◌≡◌, ◌⊎◌, inl, inr, refl, ap, subst, ℕ, List, [], ◌∷◌, None, Result, Ok, Err, IfOk, arith}
 use Rattle.disk_model.specs.declared.disk_file.DiskFile.{DiskFile}
 use Rattle.disk_model.specs.declared.disk_file.DiskFile.TheVariants.{One, Two}
 use Rattle.disk_model.specs.Store.{Store}

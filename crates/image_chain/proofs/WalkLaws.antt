@@ -1,27 +1,26 @@
 -- The records of a file, one after another.
-use Rattle.std.proofs.Common.{◌≡◌, ◌≢◌, ◌⊎◌, inl, inr, ⊎_elim, refl, sym, ◌∙◌, ap, subst, ℕ, zero, suc, ◌+◌, ◌-◌, ◌<◌, ◌≤◌, ◌==◌, Bool, true, false, cond, IsTrue, List, [], ◌∷◌, ◌++◌, length, get_or, take, drop, Option, Some, None, Result, Ok, Err, arith, append_assoc, length-append, length-drop, length-take-le, take-append-drop}
+use Rattle.std.proofs.Common.{◌≡◌, ⊎_elim, refl, sym, ◌∙◌, ap, ℕ, zero, suc, ◌+◌, ◌-◌, ◌<◌, ◌≤◌, Bool, true, false, cond, List, [], ◌∷◌, ◌++◌, length, take, drop, Option, Some, None, Result, Ok, Err, arith, append_assoc, length-append, length-take-le, take-append-drop}
 use Rattle.std.specs.Prelude.{slice_index}
-use Rattle.std.specs.List.{AllByRecursion}
 use Rattle.std.specs.Option.{option_or}
 use Rattle.std.proofs.lemmas.Bool.{eqb-true}
-use Rattle.std.proofs.lemmas.List.{append-nil, take_at, drop_at, drop_more, get_or_at, get_or-take, same_from_push}
+use Rattle.std.proofs.lemmas.List.{append-nil, take_at, drop_more, get_or_at, get_or-take, same_from_push}
 use Rattle.disk_model.specs.declared.disk_file.DiskFile.{DiskFile}
 use Rattle.image_format.specs.declared.fields.Fields.{Fields}
 use Rattle.image_format.specs.declared.header.Header.{Header}
 use Rattle.image_format.specs.Image.{Image, IsImage, word_in_runs}
-use Rattle.image_format.specs.Spelling.{is_open, text, spelling, image_length, IsFront}
+use Rattle.image_format.specs.Spelling.{is_open, text, image_length, IsFront}
 use Rattle.image_format.specs.Reading.{◌>>=◌, image_at}
 use Rattle.image_format.proofs.RecordLaws.{text_length, image_short}
 use Rattle.image_chain.specs.declared.chain.Current.{Current}
 use Rattle.image_chain.specs.declared.fault.ChainFault.{ChainFault}
 use Rattle.image_chain.specs.declared.fault.ChainFault.TheVariants.{Failed, Damaged}
-use Rattle.image_chain.specs.Records.{Damage, located, record_in, broken_field, in_order, records_at, newest_of}
-use Rattle.image_chain.specs.Memory.{Joined, memory, kept_word}
-use Rattle.image_chain.specs.Append.{header_of, head, chained, chained_length, AreInOrder, front}
+use Rattle.image_chain.specs.Records.{Damage, located, record_in, broken_field, in_order, records_at}
+use Rattle.image_chain.specs.Memory.{Joined}
+use Rattle.image_chain.specs.Append.{header_of, head, chained, chained_length, front}
 use Rattle.image_chain.specs.Looking.{IsDamage}
 use Rattle.image_chain.specs.Walk.{with_front, Walked, Accepted, IsRefused}
 use Rattle.image_chain.proofs.ListLaws.{one_more, no_more}
-use Rattle.image_chain.proofs.StepLaws.{newest_push, spans_next, order_push, images_push, length_push, chained_push, chained_length_push, length_chained}
+use Rattle.image_chain.proofs.StepLaws.{newest_push, spans_next, order_push, images_push, length_push, chained_push, chained_length_push}
 use Rattle.image_chain.proofs.KeptLaws.{memory_push}
 
 -- ---- what is left after one record

@@ -1,5 +1,5 @@
 -- What a crash leaves of the chain at each moment, by lists of records.
-use Rattle.std.specs.Prelude.{◌≡◌, ◌⊎◌, ◌↔◌, ℕ, ◌+◌, IsTrue, true, List, [], ◌∷◌, ◌++◌, length, Option, Some, None, Result, Ok, IfOk}
+use Rattle.std.specs.Prelude.{◌≡◌, ◌⊎◌, ℕ, ◌+◌, IsTrue, List, [], ◌∷◌, ◌++◌, length, Option, Some, None, Result, Ok, IfOk}
 use Rattle.ckpt_base.specs.declared.errors.Failed.{Failed}
 use Rattle.disk_model.specs.declared.disk_file.DiskFile.{DiskFile}
 use Rattle.disk_model.specs.Store.{Store, file_of}
@@ -11,7 +11,7 @@ use Rattle.image_chain.specs.declared.chain.Current.{Current}
 use Rattle.image_chain.specs.declared.chain.Chain.{Chain}
 use Rattle.image_chain.specs.declared.chain.Step.{Step}
 use Rattle.image_chain.specs.declared.chain.Step.TheVariants.{Piece, SyncRecord, OpenGate, SyncGate, Done}
-use Rattle.image_chain.specs.Records.{Damage, Found, chain_in}
+use Rattle.image_chain.specs.Records.{Found, chain_in}
 use Rattle.image_chain.specs.Append.{header_of, IsAtRest, IsDue, Stands, Spells}
 
 -- what is found where these records stand in this file behind this header: no chain where there is none

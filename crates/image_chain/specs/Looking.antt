@@ -1,5 +1,5 @@
 -- What a call answers of a store, and what it leaves of the disk.
-use Rattle.std.specs.Prelude.{◌≡◌, ◌⊎◌, ◌↔◌, ℕ, ◌≤◌, IsTrue, List, length, take, Option, Some, None, Result, Ok, Err}
+use Rattle.std.specs.Prelude.{◌≡◌, ◌↔◌, ℕ, ◌≤◌, IsTrue, List, length, take, Option, Some, None, Result, Ok, Err}
 use Rattle.image_format.specs.declared.header.Header.{Header}
 use Rattle.image_format.specs.Image.{Image, IsImage, IsHeldHeader}
 use Rattle.image_format.specs.Spelling.{SpellsHeader, IsFront}

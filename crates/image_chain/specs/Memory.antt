@@ -1,5 +1,5 @@
 -- What records give each cell.
-use Rattle.std.specs.Prelude.{ℕ, if◌then◌else◌, Bool, List, [], ◌∷◌, length, slice_index, slice_index_or, false, Option, Some, None}
+use Rattle.std.specs.Prelude.{ℕ, if◌then◌else◌, Bool, List, [], ◌∷◌, slice_index, slice_index_or, false, Option, Some, None}
 use Rattle.std.specs.Option.{option_or}
 use Rattle.image_format.specs.Image.{Image, word_in_runs}
 

@@ -1,5 +1,5 @@
 -- The chain of a store: its current file, the records of that file, and every kind of damage.
-use Rattle.std.specs.Prelude.{◌≡◌, ℕ, zero, suc, ◌+◌, nat_lt, nat_le, ◌==◌, not, if◌then◌else◌, Bool, List, [], ◌∷◌, length, take, drop, slice_index, Option, Some, None, Result, Ok, Err}
+use Rattle.std.specs.Prelude.{ℕ, zero, suc, ◌+◌, nat_lt, nat_le, ◌==◌, not, if◌then◌else◌, List, [], ◌∷◌, length, take, drop, slice_index, Option, Some, None, Result, Ok, Err}
 use Rattle.std.specs.Str.{bytes_eq}
 use Rattle.disk_model.specs.declared.disk_file.DiskFile.{DiskFile}
 use Rattle.disk_model.specs.declared.disk_file.DiskFile.TheVariants.{One, Two}

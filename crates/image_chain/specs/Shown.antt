@@ -1,5 +1,5 @@
 -- The record that stands at a known place.
-use Rattle.std.specs.Prelude.{◌≡◌, ◌≢◌, ℕ, ◌+◌, ◌-◌, ◌^◌, ◌<◌, ◌≤◌, min, get_or, List, ◌∷◌, ◌++◌, length, take, drop, IsTrue, Result, Ok, Err}
+use Rattle.std.specs.Prelude.{◌≡◌, ◌≢◌, ℕ, ◌+◌, ◌-◌, ◌^◌, ◌≤◌, min, get_or, List, ◌∷◌, ◌++◌, length, take, drop, IsTrue, Result, Ok, Err}
 use Rattle.disk_model.specs.declared.disk_file.DiskFile.{DiskFile}
 use Rattle.disk_model.specs.View.{View}
 use Rattle.image_format.specs.Image.{Image}

@@ -1,13 +1,10 @@
 -- How far the records of a file were read.
-use Rattle.std.specs.Prelude.{◌≡◌, ◌≢◌, ◌⊎◌, ℕ, ◌+◌, ◌-◌, ◌<◌, ◌≤◌, IsTrue, Bool, true, List, [], ◌∷◌, ◌++◌, length, take, slice_index, Option, Some, None, Result, Ok, Err}
+use Rattle.std.specs.Prelude.{◌≡◌, ◌≢◌, ◌⊎◌, ℕ, ◌+◌, ◌-◌, ◌<◌, ◌≤◌, List, [], ◌∷◌, ◌++◌, length, take, Option, Some, None, Result, Ok}
 use Rattle.std.specs.List.{AllByRecursion}
-use Rattle.disk_model.specs.declared.disk_file.DiskFile.{DiskFile}
 use Rattle.disk_model.specs.declared.disk_file.DiskFile.TheVariants.{Output}
 use Rattle.disk_model.specs.Store.{Store, file_of}
-use Rattle.image_format.specs.declared.fields.Fields.{Fields}
-use Rattle.image_format.specs.declared.header.Header.{Header}
 use Rattle.image_format.specs.Image.{Image, IsImage, word_in_runs}
-use Rattle.image_format.specs.Spelling.{is_open, image_length}
+use Rattle.image_format.specs.Spelling.{image_length}
 use Rattle.image_format.specs.Reading.{◌>>=◌}
 use Rattle.image_chain.specs.declared.chain.Chain.{Chain}
 use Rattle.image_chain.specs.declared.chain.Current.{Current}

@@ -1,14 +1,12 @@
 //! Appending a record, one disk call at a time.
-ghost use Rattle.std.specs.Prelude.{◌≡◌, ◌≢◌, ◌⊎◌, ◌+◌, ◌*◌, ◌<◌, ◌≤◌, length, IsTrue, IfOk, OnOk, OnErr, Option, Some, None, [], ◌∷◌, ◌++◌, List, ℕ};
+ghost use Rattle.std.specs.Prelude.{◌≡◌, ◌+◌, ◌*◌, ◌<◌, length, IsTrue, IfOk, OnOk, OnErr, Option, Some, None, [], ◌∷◌, ◌++◌, List};
 ghost use Rattle.ckpt_base.specs.Faults.{Rose};
-ghost use Rattle.disk_model.specs.Store.{Store};
 ghost use Rattle.disk_model.specs.View.{Steady};
 ghost use Rattle.disk_model.specs.Moments.{Among, LeavesOnly};
 ghost use Rattle.image_format.specs.Image.{Image};
-ghost use Rattle.image_format.specs.Spelling.{image_length};
 ghost use Rattle.image_chain.specs.Records.{broken_field};
 ghost use Rattle.image_chain.specs.Append.{header_of, IsDue, IsInside, SameCurrent, Spells, TakesOver, TakesSpan, IfLast, next_of, due_after as step_after};
-ghost use Rattle.image_chain.specs.Lists.{Makes, IsAppended, Lists, Rests};
+ghost use Rattle.image_chain.specs.Lists.{Makes, IsAppended, Rests};
 
 use crate::chain::{Chain, Current, Span, Step};
 use ckpt_base::Failed;

@@ -1,5 +1,5 @@
 //! The joined content of a chain.
-ghost use Rattle.std.specs.Prelude.{◌≡◌, ◌<◌, ◌≤◌, ◌+◌, ◌*◌, ℕ, length, slice_index, IfOk, None};
+ghost use Rattle.std.specs.Prelude.{◌≡◌, ◌<◌, ◌≤◌, ◌+◌, ◌*◌, ℕ, length, IfOk, None};
 ghost use Rattle.std.specs.Option.{option_or};
 ghost use Rattle.std.specs.Int.{w64, from_be_bytes};
 ghost use Rattle.page_frames.specs.Words.{eight, words_of};

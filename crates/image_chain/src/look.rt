@@ -1,5 +1,5 @@
 //! Looking at the files of a store.
-ghost use Rattle.std.specs.Prelude.{◌≡◌, ◌≤◌, ◌-◌, min, length, take, drop, IsTrue, IfOk, IfErr, OnErr, ℕ, true};
+ghost use Rattle.std.specs.Prelude.{◌≡◌, ◌≤◌, ◌-◌, length, take, drop, IsTrue, IfOk, IfErr, OnErr, true};
 ghost use Rattle.ckpt_base.specs.Faults.{Rose};
 ghost use Rattle.disk_model.specs.Store.{file_of};
 ghost use Rattle.image_format.specs.Reading.{image_at};

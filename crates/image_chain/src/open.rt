@@ -1,14 +1,14 @@
 //! Opening the chain of a store.
-ghost use Rattle.std.specs.Prelude.{◌≡◌, ◌≢◌, ◌⊎◌, ◌+◌, ◌*◌, ◌<◌, ◌≤◌, length, IsTrue, IfOk, IfErr, OnOk, slice_index, Option, Some, None, Ok, Err, [], ◌∷◌, ◌++◌, List, ℕ, true, false, if◌then◌else◌, take};
-ghost use Rattle.disk_model.specs.Store.{Store, file_of};
+ghost use Rattle.std.specs.Prelude.{◌≡◌, ◌≢◌, ◌+◌, ◌<◌, ◌≤◌, length, IsTrue, IfOk, IfErr, OnOk, slice_index, Option, Some, None, Ok, Err, [], ◌∷◌, ◌++◌, List, ℕ, true, false, if◌then◌else◌, take};
+ghost use Rattle.disk_model.specs.Store.{file_of};
 ghost use Rattle.disk_model.specs.View.{Steady};
-ghost use Rattle.disk_model.specs.Moments.{Among, LeavesOnly};
-ghost use Rattle.image_format.specs.Image.{Image, IsImage, IsHeldHeader};
+ghost use Rattle.disk_model.specs.Moments.{LeavesOnly};
+ghost use Rattle.image_format.specs.Image.{Image, IsHeldHeader};
 ghost use Rattle.image_format.specs.Spelling.{is_open, image_length, SpellsHeader};
-ghost use Rattle.image_chain.specs.Records.{broken_field, only_open, newer as newer_of, in_number, damaged, records_at, record_in, found_in, chain_in};
-ghost use Rattle.image_chain.specs.Memory.{memory, kept_word};
+ghost use Rattle.image_chain.specs.Records.{broken_field, only_open, newer as newer_of, in_number, damaged, records_at, found_in, chain_in};
+ghost use Rattle.image_chain.specs.Memory.{kept_word};
 ghost use Rattle.image_chain.specs.Append.{header_of as header_kept};
-ghost use Rattle.image_chain.specs.Lists.{Rests, found_of};
+ghost use Rattle.image_chain.specs.Lists.{found_of};
 ghost use Rattle.image_chain.specs.Looking.{IsDamage, Answers, RoseIfFailed, OnlyLooked};
 ghost use Rattle.image_chain.specs.Walk.{Walked, Accepted, IsRefused, IsRead, IsFound, IsOpened, opened_as};
 

@@ -1,11 +1,9 @@
 //! What a chain tells, and its records.
-ghost use Rattle.std.specs.Prelude.{◌≡◌, ◌<◌, ◌≤◌, ◌+◌, ℕ, List, ◌∷◌, [], ◌++◌, length, take, IsTrue, IfOk, IfErr, Option, Some, None, Ok};
+ghost use Rattle.std.specs.Prelude.{◌≡◌, ◌<◌, ◌≤◌, ◌+◌, List, ◌∷◌, [], ◌++◌, length, take, IsTrue, IfOk, IfErr, Option, None, Ok};
 ghost use Rattle.disk_model.specs.Store.{Store, file_of};
 ghost use Rattle.image_format.specs.Image.{Image};
-ghost use Rattle.image_format.specs.Spelling.{image_length};
-ghost use Rattle.image_format.specs.Reading.{image_at};
-ghost use Rattle.image_chain.specs.Records.{record_in, newest_of};
-ghost use Rattle.image_chain.specs.Append.{chained_length, header_of};
+ghost use Rattle.image_chain.specs.Records.{newest_of};
+ghost use Rattle.image_chain.specs.Append.{chained_length};
 ghost use Rattle.image_chain.specs.Lists.{Lists, Rests};
 ghost use Rattle.image_chain.specs.Looking.{OnlyLooked, RoseIfFailed};
 ghost use Rattle.image_chain.specs.Shown.{IsRecordOf, IsNoRecord, IsShown, StandsAt, ShowsRecord, place_in, span_at};
@@ -80,6 +78,8 @@ impl Chain {
     ) -> Result<usize, ChainFault>
         requires i { i < self.now.current.count }
         requires rest { self.now.due ≡ Step.Piece 0 }
+        ensures length { IfOk result (λ n. n ≡ (span_at self.now i).length) }
+        ensures most { IfOk result (λ n. n ≤ 3145837) }
         ensures answer { IfOk result (λ n. IsRecordOf n (take n room.new)) }
         ensures damaged { IfErr result (λ e. IsNoRecord e self.now.current.file (span_at self.now i) room.new) }
         ensures told { ShowsRecord self.now (D.view disk.old) i result room.new }
@@ -115,6 +115,8 @@ fn read_span<D: Disk>(
     span: Span,
     room: &mut ChainRoom,
 ) -> Result<usize, ChainFault>
+    ensures length { IfOk result (λ n. n ≡ span.length) }
+    ensures most { IfOk result (λ n. n ≤ 3145837) }
     ensures answer { IfOk result (λ n. IsRecordOf n (take n room.new)) }
     ensures damaged { IfErr result (λ e. IsNoRecord e file span room.new) }
     ensures told { IsTrue (D.view disk.old).tells → (r : Image) → StandsAt span r (file_of file (D.view disk.old).seen) → IsShown result r room.new }

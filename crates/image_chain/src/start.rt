@@ -1,12 +1,11 @@
 //! A chain that begins, and one that is settled before it goes on.
-ghost use Rattle.std.specs.Prelude.{◌≡◌, ◌+◌, ◌≤◌, length, IsTrue, IfOk, OnOk, OnErr, Option, Some, None, Ok, [], ◌∷◌, ◌++◌, List, ℕ};
+ghost use Rattle.std.specs.Prelude.{◌≡◌, ◌+◌, ◌≤◌, IsTrue, IfOk, OnOk, OnErr, None, Ok, [], List};
 ghost use Rattle.ckpt_base.specs.Faults.{Rose};
 ghost use Rattle.disk_model.specs.Store.{Store};
 ghost use Rattle.disk_model.specs.View.{Steady};
 ghost use Rattle.disk_model.specs.Moments.{Among, LeavesOnly};
 ghost use Rattle.image_format.specs.Image.{Image};
 ghost use Rattle.image_chain.specs.Records.{chain_in};
-ghost use Rattle.image_chain.specs.Append.{IsAtRest};
 ghost use Rattle.image_chain.specs.Lists.{IsKept, HasNone, IsSettled, Rests};
 
 use crate::chain::{Chain, Current, NO_SPANS, Step};

@@ -48,8 +48,8 @@ fn begun(disk: &mut MemDisk) -> Result<Chain, Failed>
     Chain::start(disk, 1, 16)
 }
 
-// How many records opening finds after a crash in the call that opens the gate.
-fn found_after(rt: &HostRuntime, pick: u8) -> Result<u16, Fail> {
+// How many records opening finds after a crash in the call that opens the gate, and the word that it keeps for cell 5.
+fn found_after(rt: &HostRuntime, pick: u8) -> Result<(u16, Option<u64>), Fail> {
     let mut room = ChainRoom::new(rt.alloc())?;
     let mut kept = Kept::new(rt.alloc())?;
     let image = written(rt)?;
@@ -57,21 +57,36 @@ fn found_after(rt: &HostRuntime, pick: u8) -> Result<u16, Fail> {
     let mut chain = begun(&mut disk)?;
     disk.fuse(3);
     if chain.append(&mut disk, image.as_slice()).is_ok() {
-        return Ok(99);
+        return Ok((99, None));
     }
     disk.crash(pick);
     match Chain::open(&mut disk, &mut room, &mut kept) {
-        Ok(None) => Ok(0),
-        Ok(Some(chain)) => Ok(chain.count()),
-        Err(_) => Ok(98),
+        Ok(None) => Ok((0, None)),
+        Ok(Some(chain)) => Ok((chain.count(), kept.word(5))),
+        Err(_) => Ok((98, None)),
     }
 }
 
 #[test]
 fn a_torn_gate_is_open_or_it_is_not(rt: HostRuntime) -> Result<(), Fail> {
-    assert_eq!(rt; found_after(&rt, 0)?, 0);
-    assert_eq!(rt; found_after(&rt, 1)?, 1);
-    assert_eq!(rt; found_after(&rt, 7)?, 0);
-    assert_eq!(rt; found_after(&rt, 165)?, 1);
+    assert_eq!(rt; found_after(&rt, 0)?, (0, None));
+    assert_eq!(rt; found_after(&rt, 1)?, (1, Some(0x0102_0304_0506_0708)));
+    assert_eq!(rt; found_after(&rt, 7)?, (0, None));
+    assert_eq!(rt; found_after(&rt, 165)?, (1, Some(0x0102_0304_0506_0708)));
+    Ok(())
+}
+
+#[test]
+fn an_appended_record_is_read_again(rt: HostRuntime) -> Result<(), Fail> {
+    let mut room = ChainRoom::new(rt.alloc())?;
+    let image = written(&rt)?;
+    let mut disk = MemDisk::new(rt.alloc(), 64, 4096, 0, Vec::new(rt.alloc()))?;
+    let mut chain = begun(&mut disk)?;
+    chain.append(&mut disk, image.as_slice())?;
+    assert_eq!(rt; chain.newest_place(), 16);
+    match chain.record_at(&mut disk, 0, &mut room) {
+        Ok(length) => assert_eq!(rt; &room.bytes()[..length], image.as_slice()),
+        Err(_) => assert_eq!(rt; chain.count(), 99),
+    }
     Ok(())
 }

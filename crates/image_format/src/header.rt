@@ -1,5 +1,5 @@
 //! The header of an image file.
-ghost use Rattle.std.specs.Prelude.{◌≡◌, ℕ, ◌<◌, ◌^◌, IfOk, length, Ok};
+ghost use Rattle.std.specs.Prelude.{◌≡◌, ◌<◌, IfOk, length, Ok};
 ghost use Rattle.image_format.specs.Image.{IsBytes, IsHeader, IsHeldHeader};
 ghost use Rattle.image_format.specs.declared.header.Header.{Header as HeaderOf};
 ghost use Rattle.image_format.specs.Spelling.{header_bytes, gate_of, SpellsHeader};

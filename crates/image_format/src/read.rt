@@ -1,7 +1,7 @@
 //! The fields of a record, from the front of what is left of its bytes. `end` is where all of them end.
-ghost use Rattle.std.specs.Prelude.{◌≡◌, ◌+◌, ◌≤◌, ◌<◌, ◌^◌, ◌==◌, length, List, Ok, IfOk, IfErr, IsTrue, false};
+ghost use Rattle.std.specs.Prelude.{◌≡◌, ◌+◌, ◌≤◌, ◌<◌, ◌==◌, length, Ok, IfOk, IfErr, IsTrue, false};
 ghost use Rattle.std.specs.Int.{w8, w16, w32, w64};
-ghost use Rattle.image_format.specs.Reading.{Gives, bytes_at, number_at, marks_at, places_at, counts_at, Head, head_at};
+ghost use Rattle.image_format.specs.Reading.{Gives, bytes_at, number_at, marks_at, places_at, counts_at, head_at};
 
 use crate::fields::{BadRecord, Fields, Marks};
 

@@ -1,5 +1,5 @@
 //! A record, seen in the bytes that it was read from.
-ghost use Rattle.std.specs.Prelude.{◌≡◌, ◌≤◌, ◌<◌, ◌^◌, ◌+◌, ◌*◌, ◌++◌, ℕ, length, List, [], ◌∷◌, Ok, IfOk, IfErr, MatchOption};
+ghost use Rattle.std.specs.Prelude.{◌≡◌, ◌≤◌, ◌<◌, ◌+◌, ◌*◌, length, List, [], Ok, IfOk, IfErr, MatchOption};
 ghost use Rattle.page_frames.specs.Words.{words_of};
 ghost use Rattle.image_format.specs.Image.{WordRun, Image, AreRuns, IsImage};
 ghost use Rattle.image_format.specs.Spelling.{IsFront, image_length};

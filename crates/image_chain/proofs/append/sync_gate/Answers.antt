@@ -1,5 +1,5 @@
-use Rattle.std.proofs.Common.{rules, subst, sym, ap, ◌∙◌, IsTrue}
-use Rattle.image_chain.proofs.StepLaws.{due_holds, sync_gate_moments, sync_gate_rest, sync_gate_keeps, reads_more, sync_gate_reads}
+use Rattle.std.proofs.Common.{rules, subst, sym, IsTrue}
+use Rattle.image_chain.proofs.StepLaws.{due_holds, sync_gate_moments, sync_gate_rest, sync_gate_keeps, sync_gate_reads}
 use Rattle.image_chain.proofs.append.sync_gate.Goals as goal
 
 pub returns-in_err-sync-clause-makes : goal.returns-in_err-sync-clause-makes

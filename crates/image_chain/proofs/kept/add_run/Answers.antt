@@ -1,6 +1,6 @@
 use Rattle.std.proofs.Common.{◌≡◌, ◌∙◌, ◌-◌, Some, ap, cond, ℕ}
 use Rattle.std.specs.Prelude.{slice_index}
-use Rattle.page_frames.specs.Words.{word_at, words_of}
+use Rattle.page_frames.specs.Words.{words_of}
 use Rattle.page_frames.proofs.Words.{word_eight}
 use Rattle.std.proofs.Common.{sym, arith}
 use Rattle.image_chain.specs.Memory.{joined, kept_word}

@@ -1,4 +1,4 @@
-use Rattle.std.proofs.Common.{◌≡◌, ◌+◌, ◌-◌, ℕ, Some, cond, length}
+use Rattle.std.proofs.Common.{◌≡◌, ◌-◌, ℕ, Some, cond}
 use Rattle.std.specs.Prelude.{slice_index}
 use Rattle.page_frames.specs.Words.{words_of}
 use Rattle.image_chain.specs.Memory.{joined, kept_word}

@@ -1,4 +1,4 @@
-use Rattle.std.proofs.Common.{◌≡◌, ◌∙◌, ap, sym, subst, take, drop, IsTrue}
+use Rattle.std.proofs.Common.{◌∙◌, ap, sym, subst, take, drop, IsTrue}
 use Rattle.disk_model.specs.Store.{Store, file_of}
 use Rattle.image_chain.proofs.LookLaws.{same_read}
 use Rattle.image_chain.proofs.look.fetch.Goals as goal

@@ -1,4 +1,4 @@
-use Rattle.std.proofs.Common.{◌≡◌, ◌∙◌, ◌≤◌, arith, ap, refl, sym, subst, length, take, List, ℕ, IsTrue}
+use Rattle.std.proofs.Common.{◌∙◌, arith, ap, sym, subst, length, List, ℕ, IsTrue}
 use Rattle.disk_model.specs.Store.{Store, file_of}
 use Rattle.disk_model.specs.View.{Takes}
 use Rattle.image_format.specs.Spelling.{SpellsHeader}

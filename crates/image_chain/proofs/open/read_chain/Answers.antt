@@ -1,8 +1,4 @@
-use Rattle.std.proofs.Common.{◌≡◌, ◌∙◌, ap, sym, refl, subst, arith, Bool, cond, List, ℕ, Ok, Err, true, ◌≤◌}
-use Rattle.disk_model.specs.declared.disk_file.DiskFile.{DiskFile}
-use Rattle.disk_model.specs.Store.{file_of}
-use Rattle.image_format.specs.declared.header.Header.{Header}
-use Rattle.image_chain.specs.Append.{header_of}
+use Rattle.std.proofs.Common.{◌∙◌, ap, sym, Bool}
 use Rattle.image_chain.proofs.OpenLaws.{read_done, found_in_file, ahead_in_file, ahead_yes, ahead_no}
 use Rattle.image_chain.proofs.open.read_chain.Goals as goal
 

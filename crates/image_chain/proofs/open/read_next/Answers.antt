@@ -1,8 +1,7 @@
-use Rattle.std.proofs.Common.{◌≡◌, ◌∙◌, ◌-◌, ap, sym, subst, arith, take, drop, length, List, ℕ, IsTrue}
+use Rattle.std.proofs.Common.{◌∙◌, ◌-◌, ap, sym, subst, arith, take, length, List, ℕ}
 use Rattle.std.specs.Prelude.{slice_index}
 use Rattle.std.proofs.lemmas.List.{length-take}
 use Rattle.std.proofs.lemmas.Result.{err_from_is_err_and}
-use Rattle.disk_model.specs.Store.{file_of}
 use Rattle.image_format.specs.Spelling.{is_open, image_length, IsFront}
 use Rattle.image_format.specs.Reading.{image_at}
 use Rattle.image_chain.proofs.WalkLaws.{walk_bad, walk_refused, walk_on, record_length_fits, record_inside, last_gate}

@@ -1,11 +1,11 @@
-use Rattle.std.proofs.Common.{◌≡◌, ◌∙◌, ap, sym, refl, subst, List, Option, None, Some, Result, Ok, [], IsTrue}
+use Rattle.std.proofs.Common.{◌≡◌, ◌∙◌, ap, sym, subst, Option, None, Some, Ok, [], IsTrue}
 use Rattle.std.proofs.lemmas.Result.{err_from_is_err_and}
 use Rattle.disk_model.specs.declared.disk_file.DiskFile.{DiskFile}
 use Rattle.disk_model.specs.Store.{Store, file_of}
 use Rattle.image_format.specs.declared.header.Header.{Header}
 use Rattle.image_chain.specs.Looking.{IsDamage}
 use Rattle.image_chain.specs.Lists.{found_of}
-use Rattle.image_chain.specs.Records.{Damage, found_in}
+use Rattle.image_chain.specs.Records.{found_in}
 use Rattle.image_chain.specs.Walk.{IsRead}
 use Rattle.image_chain.proofs.OpenLaws.{one_damage, two_damage, both_damage, found_damage, second_is, second_damage, current_of, read_from, found_named}
 use Rattle.image_chain.proofs.ListLaws.{current_is}

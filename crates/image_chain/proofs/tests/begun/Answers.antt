@@ -1,4 +1,4 @@
-use Rattle.std.proofs.Common.{rules, ◌≡◌, IfOk, refl, []}
+use Rattle.std.proofs.Common.{refl, []}
 use Rattle.image_chain.proofs.TestLaws.{none_left, if_ok}
 use Rattle.image_chain.proofs.tests.begun.Goals as goal
 

@@ -1,4 +1,4 @@
-use Rattle.std.proofs.Common.{rules, ◌≡◌, sym, ◌∙◌, ap, subst, ℕ, List, []}
+use Rattle.std.proofs.Common.{sym, ◌∙◌, ap, subst, ℕ, List, []}
 use Rattle.disk_model.specs.MemoryDisk.{MemoryDisk, empty_disk, view_of}
 use Rattle.image_chain.specs.Lists.{Rests}
 use Rattle.image_chain.proofs.tests.found_after.Goals as goal

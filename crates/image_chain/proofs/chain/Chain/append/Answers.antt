@@ -1,11 +1,10 @@
-use Rattle.std.proofs.Common.{rules, arith, ◌≡◌, refl, sym, ◌∙◌, ap, subst, ◌<◌, [], ◌∷◌, length, Ok, Option, None, IsTrue}
+use Rattle.std.proofs.Common.{rules, arith, refl, sym, ◌∙◌, ap, subst, ◌<◌, length, IsTrue}
 use Rattle.ckpt_base.specs.Faults.{Rose}
 use Rattle.disk_model.proofs.Calls.{steady_twice}
 use Rattle.image_chain.specs.declared.chain.Step.{Step}
 use Rattle.image_chain.specs.declared.chain.Current.{Current}
-use Rattle.image_chain.specs.declared.chain.Step.TheVariants.{Done}
 use Rattle.image_chain.specs.Records.{broken_field}
-use Rattle.image_chain.specs.Append.{IsInside, IsInsideOrDone, Stands, due_after, left_to_do}
+use Rattle.image_chain.specs.Append.{IsInsideOrDone, Stands, due_after}
 use Rattle.image_chain.proofs.LoopLaws.{begun, goes_on, due_next, inside_next, inside_due, smaller, stands_due, due_is, same_next, took_next, not_last}
 use Rattle.image_chain.proofs.StepLaws.{spells_length}
 use Rattle.image_chain.proofs.chain.Chain.append.Goals as goal

@@ -1,7 +1,7 @@
-use Rattle.std.proofs.Common.{rules, ap, subst, ◌≡◌, sym}
+use Rattle.std.proofs.Common.{subst, sym}
 use Rattle.disk_model.specs.Store.{file_of}
 use Rattle.image_chain.specs.declared.chain.Span.{Span}
-use Rattle.image_chain.specs.Shown.{StandsAt, span_at}
+use Rattle.image_chain.specs.Shown.{StandsAt}
 use Rattle.image_chain.proofs.ShownLaws.{stands}
 use Rattle.image_chain.proofs.chain.Chain.record_at.Goals as goal
 

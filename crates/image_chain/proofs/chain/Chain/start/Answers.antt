@@ -1,7 +1,4 @@
-use Rattle.std.proofs.Common.{arith, refl, ◌<◌, ◌^◌, [], ◌∷◌}
-use Rattle.image_format.specs.declared.header.Header.{Header}
-use Rattle.image_format.specs.Image.{IsHeldHeader}
-use Rattle.image_chain.proofs.ListLaws.{Holds}
+use Rattle.std.proofs.Common.{arith, refl, []}
 use Rattle.image_chain.proofs.StartLaws.{start_moments, start_rest, started_keeps, new_header, holds_new}
 use Rattle.image_chain.proofs.chain.Chain.start.Goals as goal
 
