@@ -2,3 +2,5 @@
 pub mod Edges
 -- edges that are appended, the last first
 pub mod Laying
+-- what statements may read and write, and which functions they call
+pub mod Effects

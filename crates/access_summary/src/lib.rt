@@ -4,7 +4,9 @@
 #![tactic(auto)]
 
 mod edge_list;
+mod effects;
 #[cfg(test)]
 mod tests;
 
 pub use edge_list::{Edge, EdgeList, edges};
+pub use effects::{Effect, Named, Target};
