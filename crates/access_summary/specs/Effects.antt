@@ -1,6 +1,5 @@
 -- What statements may read and write, and which functions they call: the effects, in the order of the text.
 use Rattle.std.specs.Prelude.{ℕ, ℤ, pos, negsuc, List, [], ◌∷◌, ◌++◌, Option, Some, None}
-use Rattle.std.specs.List.{concat, flat_map}
 use Rattle.c_tree.specs.declared.resolved.Direction.{Direction}
 use Rattle.c_tree.specs.declared.resolved.Direction.TheVariants.{Forward, Back}
 use Rattle.c_tree.specs.declared.resolved.RExpr.{RExpr}
@@ -128,8 +127,17 @@ init_effects f None = []
 init_effects f (Some (init.Declare a)) = assign_effects f a
 init_effects f (Some (init.Set a)) = assign_effects f a
 
+-- what a `for` does beside its body
+abbrev pub head_effects : Option ℕ → Option RInit → Option RExpr → Option RAssign → List Effect
+head_effects f i e u = init_effects f i ++ (test_effects f e ++ update_effects f u)
+
 abbrev pub call_effects : Option ℕ → ℕ → List RExpr → List Effect
 call_effects f g es = all_effects f es ++ effect.Call g ∷ []
+
+-- one part after the other
+abbrev pub all_parts : List (List Effect) → List Effect
+all_parts [] = []
+all_parts (es ∷ more) = es ++ all_parts more
 
 -- the effects of a statement, from those of its parts
 abbrev pub effects_at : Option ℕ → RStmt-F (List Effect) (List Effect) → List Effect
@@ -141,12 +149,12 @@ effects_at f (RStmt-F.Return e) = expr_effects f e
 effects_at f (RStmt-F.ReturnCall g es) = call_effects f g es
 effects_at f (RStmt-F.Put e) = expr_effects f e
 effects_at f (RStmt-F.Print ps es) = all_effects f es
-effects_at f (RStmt-F.If arms None) = concat arms
-effects_at f (RStmt-F.If arms (Some s)) = concat arms ++ s
+effects_at f (RStmt-F.If arms None) = all_parts arms
+effects_at f (RStmt-F.If arms (Some s)) = all_parts arms ++ s
 effects_at f (RStmt-F.While e s) = expr_effects f e ++ s
 effects_at f (RStmt-F.Do s e) = s ++ expr_effects f e
-effects_at f (RStmt-F.For i e u s) = init_effects f i ++ (test_effects f e ++ (update_effects f u ++ s))
-effects_at f (RStmt-F.Block ss) = concat ss
+effects_at f (RStmt-F.For i e u s) = head_effects f i e u ++ s
+effects_at f (RStmt-F.Block ss) = all_parts ss
 effects_at f s = []
 
 abbrev pub arm_effects_at : Option ℕ → RArm-F (List Effect) (List Effect) → List Effect

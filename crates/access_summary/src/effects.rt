@@ -86,7 +86,8 @@ fn local_source(function: Option<u32>, index: u32) -> Source
     }
 }
 
-fn push(effects: &mut Items<Effect>, effect: Effect) -> Result<(), NoMemory>
+/// Appends an effect.
+pub fn push(effects: &mut Items<Effect>, effect: Effect) -> Result<(), NoMemory>
     ensures answer { OnOk result (effects.new ≡ effects.old ++ effect ∷ []) }
 {
     effects.push(effect)?;
@@ -112,7 +113,17 @@ fn look(effects: &mut Items<Effect>, function: Option<u32>, expr: &RExpr) -> Res
             look(effects, function, side.get())?;
             Ok(Named::From(Source::Nothing))
         }
-        RExpr::Binary(_, left, right) | RExpr::And(left, right) | RExpr::Or(left, right) => {
+        RExpr::Binary(_, left, right) => {
+            look(effects, function, left.get())?;
+            look(effects, function, right.get())?;
+            Ok(Named::From(Source::Nothing))
+        }
+        RExpr::And(left, right) => {
+            look(effects, function, left.get())?;
+            look(effects, function, right.get())?;
+            Ok(Named::From(Source::Nothing))
+        }
+        RExpr::Or(left, right) => {
             look(effects, function, left.get())?;
             look(effects, function, right.get())?;
             Ok(Named::From(Source::Nothing))
@@ -171,7 +182,7 @@ pub fn test_effects(
 }
 
 /// Appends the effects of the pointer of a place, and answers what a store into the place writes.
-fn pointer_effects(
+pub fn pointer_effects(
     effects: &mut Items<Effect>,
     function: Option<u32>,
     place: &RPlace,
@@ -190,7 +201,7 @@ fn pointer_effects(
 }
 
 /// Appends a write, where there is one.
-fn write(effects: &mut Items<Effect>, target: Option<Target>) -> Result<(), NoMemory>
+pub fn write(effects: &mut Items<Effect>, target: Option<Target>) -> Result<(), NoMemory>
     ensures answer { OnOk result (effects.new ≡ effects.old ++ spec.perhaps_written target) }
 {
     match target {

@@ -3,6 +3,7 @@
 //! `edges` answers the edges between the nodes of a function, as `specs/Edges` defines them by cases on its statements.
 #![tactic(auto)]
 
+mod bodies;
 mod edge_list;
 mod effects;
 #[cfg(test)]
