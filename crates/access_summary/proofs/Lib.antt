@@ -1,3 +1,5 @@
 pub mod Lay
 -- effects that are appended one after the other
 pub mod Joined
+-- sets that grow, one effect after the other
+pub mod Adding

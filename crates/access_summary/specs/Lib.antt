@@ -4,3 +4,5 @@ pub mod Edges
 pub mod Laying
 -- what statements may read and write, and which functions they call
 pub mod Effects
+-- cells that an access may touch
+pub mod Touch

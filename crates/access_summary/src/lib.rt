@@ -8,6 +8,8 @@ mod edge_list;
 mod effects;
 #[cfg(test)]
 mod tests;
+mod touch;
 
 pub use edge_list::{Edge, EdgeList, edges};
 pub use effects::{Effect, Named, Target};
+pub use touch::Access;
