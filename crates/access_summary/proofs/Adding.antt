@@ -28,24 +28,28 @@ Adds-then old mid new P Q a b = record {
   only = λ c h. elim (b.only c h) [ inl m ↦ elim (a.only c m) [ inl o ↦ inl o | inr p ↦ inr (inl p) ] | inr q ↦ inr (inr q) ];
 }
 
--- one of the effects below place i touches c
-abbrev pub Below : Resolved → Access → List Effect → ℕ → ℕ → Type 0
-Below p a es i c = (k : ℕ) × (e : Effect) × (k < i) × (slice_get es k ≡ Some e) × EffectTouches p a e c
+-- one of the effects below place i passes
+abbrev pub Among : (Effect → Type 0) → List Effect → ℕ → Type 0
+Among T es i = (k : ℕ) × (e : Effect) × (k < i) × (slice_get es k ≡ Some e) × T e
 
-one_more : (p : Resolved) (a : Access) (es : List Effect) (i : ℕ) (d : Effect) (c : ℕ) → i < length es → Below p a es i c ⊎ EffectTouches p a (get_or es i d) c → Below p a es (i + 1) c
-one_more p a es i d c l h = elim h [
+pub one_more : (T : Effect → Type 0) (es : List Effect) (i : ℕ) (d : Effect) → i < length es → Among T es i ⊎ T (get_or es i d) → Among T es (i + 1)
+one_more T es i d l h = elim h [
   | inl b ↦ let lt = b.2 in (b.0, b.1, omega arith, b.3, b.4)
   | inr t ↦ (i, get_or es i d, omega arith, slice_get-get_or es i d l, t)
 ]
 
-one_less : (p : Resolved) (a : Access) (es : List Effect) (i : ℕ) (d : Effect) (c : ℕ) → Below p a es (i + 1) c → Below p a es i c ⊎ EffectTouches p a (get_or es i d) c
-one_less p a es i d c b = let lt = b.2 in elim (cases_eq b.0 i) [
-  | inl same ↦ inr (subst (λ e. EffectTouches p a e c) (sym (ap (λ j. get_or es j d) (sym same) ∙ get_or_from_slice_get es b.0 b.1 d b.3)) b.4)
+pub one_less : (T : Effect → Type 0) (es : List Effect) (i : ℕ) (d : Effect) → Among T es (i + 1) → Among T es i ⊎ T (get_or es i d)
+one_less T es i d b = let lt = b.2 in elim (cases_eq b.0 i) [
+  | inl same ↦ inr (subst T (sym (ap (λ j. get_or es j d) (sym same) ∙ get_or_from_slice_get es b.0 b.1 d b.3)) b.4)
   | inr other ↦ inl (b.0, b.1, omega arith, b.3, b.4)
 ]
 
+-- one of the effects below place i touches c
+abbrev pub Below : Resolved → Access → List Effect → ℕ → ℕ → Type 0
+Below p a es i c = Among (λ e. EffectTouches p a e c) es i
+
 pub effects_step : (p : Resolved) (a : Access) (es : List Effect) (i : ℕ) (d : Effect) (first old new : Cells) → i < length es → Adds first old (Below p a es i) → Adds old new (EffectTouches p a (get_or es i d)) → Adds first new (Below p a es (i + 1))
-effects_step p a es i d first old new l h k = Adds-same first new _ _ (λ c. one_more p a es i d c l) (one_less p a es i d) (Adds-then first old new _ _ h k)
+effects_step p a es i d first old new l h k = Adds-same first new _ _ (λ c. one_more (λ e. EffectTouches p a e c) es i d l) (λ c. one_less (λ e. EffectTouches p a e c) es i d) (Adds-then first old new _ _ h k)
 
 pub effects_end : (p : Resolved) (a : Access) (es : List Effect) (i : ℕ) (first new : Cells) → length es ≤ i → Adds first new (Below p a es i) → Adds first new (Touches p a es)
 effects_end p a es i first new l = Adds-same first new _ _ (λ c b. (b.0, b.1, b.3, b.4)) (λ c t. let lt = slice_get_within es t.0 t.1 t.2 in (t.0, t.1, omega arith, t.2, t.3))

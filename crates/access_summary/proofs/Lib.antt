@@ -3,3 +3,5 @@ pub mod Lay
 pub mod Joined
 -- sets that grow, one effect after the other
 pub mod Adding
+-- the calls of a program are the edges of its graph of calls
+pub mod CallLaws

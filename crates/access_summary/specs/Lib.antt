@@ -6,3 +6,7 @@ pub mod Laying
 pub mod Effects
 -- cells that an access may touch
 pub mod Touch
+-- which cells a function may read and write
+pub mod Summaries
+-- the edges of the graph of calls
+pub mod CallEdges

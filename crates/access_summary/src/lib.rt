@@ -4,12 +4,15 @@
 #![tactic(auto)]
 
 mod bodies;
+mod calls;
 mod edge_list;
 mod effects;
+mod summaries;
 #[cfg(test)]
 mod tests;
 mod touch;
 
 pub use edge_list::{Edge, EdgeList, edges};
 pub use effects::{Effect, Named, Target};
+pub use summaries::{Summaries, find_summaries};
 pub use touch::Access;
