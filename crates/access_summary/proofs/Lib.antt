@@ -5,3 +5,5 @@ pub mod Joined
 pub mod Adding
 -- the calls of a program are the edges of its graph of calls
 pub mod CallLaws
+-- the sets that the solver finds are the cells that functions may access
+pub mod SummaryLaws
