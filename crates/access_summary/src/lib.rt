@@ -1,10 +1,22 @@
 //! Where the nodes of a function go on, and what its statements may touch.
 //!
 //! `edges` answers the edges between the nodes of a function, as `specs/Edges` defines them by cases on its statements.
+//!
+//! `specs/Effects` says what a statement does that shows outside of its function: reads, writes and calls, in the order of the
+//! text. `specs/Touch` says which cells each may touch, by the may-point sets. [`find_summaries`] unites them over every function
+//! that a function reaches by calls, as `specs/Summaries` says.
 #![tactic(auto)]
 
+mod bodies;
+mod calls;
 mod edge_list;
+mod effects;
+mod summaries;
 #[cfg(test)]
 mod tests;
+mod touch;
 
 pub use edge_list::{Edge, EdgeList, edges};
+pub use effects::{Effect, Named, Target};
+pub use summaries::{Summaries, find_summaries};
+pub use touch::Access;

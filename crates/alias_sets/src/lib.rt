@@ -11,7 +11,7 @@ mod numbering;
 mod points;
 mod statements;
 
-pub use flows::PointerVar;
+pub use flows::{PointerVar, Source};
 pub use points::{Points, find_points};
 
 #[cfg(test)]
