@@ -7,4 +7,4 @@ mod edge_list;
 #[cfg(test)]
 mod tests;
 
-pub use edge_list::{Edge, EdgeList, edges};
+pub use edge_list::{Edge, EdgeList, Targets, edges};

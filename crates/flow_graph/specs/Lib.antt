@@ -1,0 +1,4 @@
+-- what the nodes of a function do
+pub mod Works
+-- what a graph does, node after node
+pub mod Run
