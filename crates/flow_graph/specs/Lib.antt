@@ -2,3 +2,5 @@
 pub mod Works
 -- what a graph does, node after node
 pub mod Run
+-- how runs of a graph go on
+pub mod GoesOn

@@ -7,5 +7,5 @@
 mod laws;
 mod node;
 
-pub use laws::graphs_mean_their_programs;
+pub use laws::{graph_runs_go_on, graphs_mean_their_programs};
 pub use node::NodeWork;
