@@ -16,7 +16,7 @@ mod summaries;
 mod tests;
 mod touch;
 
-pub use edge_list::{Edge, EdgeList, edges};
+pub use edge_list::{Edge, EdgeList, Targets, edges};
 pub use effects::{Effect, Named, Target};
 pub use summaries::{Summaries, find_summaries};
 pub use touch::Access;

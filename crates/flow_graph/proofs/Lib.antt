@@ -1,0 +1,4 @@
+pub mod Follow
+pub mod Same
+pub mod Steps
+pub mod Whole

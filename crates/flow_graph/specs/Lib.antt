@@ -1,0 +1,6 @@
+-- what the nodes of a function do
+pub mod Works
+-- what a graph does, node after node
+pub mod Run
+-- how runs of a graph go on
+pub mod GoesOn
