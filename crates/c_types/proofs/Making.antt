@@ -25,9 +25,9 @@ made_step {X} {A} p xs i x a done old now new h e so does after =
     let s = ap (λ ys. all (map p ys)) (split xs i x h e) in
     record {
       does = sym (bind_cons (q.does new) done a)
-        ∙ ap (λ m. onto done (q.does m >>= (λ ys. Ok (a ∷ ys)))) (sym after)
-        ∙ ap (λ r. onto done (r >>= (λ y. q.does ((p x).after now) >>= (λ ys. Ok (y ∷ ys))))) (sym does)
-        ∙ ap (λ (t : Part (List A)). onto done (t.does now)) (sym s)
-        ∙ so.does;
+          ∙ ap (λ m. onto done (q.does m >>= (λ ys. Ok (a ∷ ys)))) (sym after)
+          ∙ ap (λ r. onto done (r >>= (λ y. q.does ((p x).after now) >>= (λ ys. Ok (y ∷ ys))))) (sym does)
+          ∙ ap (λ (t : Part (List A)). onto done (t.does now)) (sym s)
+          ∙ so.does;
       after = ap q.after (sym after) ∙ ap (λ (t : Part (List A)). t.after now) (sym s) ∙ so.after;
     }

@@ -71,7 +71,7 @@ stands_at (a ∷ os) from to zero b s few sized h =
     let at : a.cell ≡ from = s.0 ∙ small_number from (omega arith) in
     let zero' : a.cell - from ≡ 0 = omega arith in
     let first : element (map resolved_object (a ∷ os)) (a.cell - from) ≡ Some (resolved_object a, 0) =
-        ap (element (map resolved_object (a ∷ os))) zero' ∙ ap (λ t. if t then Some (resolved_object a, 0) else element (map resolved_object os) (0 - a.length)) (lt_test 0 a.length one) in
+    ap (element (map resolved_object (a ∷ os))) zero' ∙ ap (λ t. if t then Some (resolved_object a, 0) else element (map resolved_object os) (0 - a.length)) (lt_test 0 a.length one) in
     subst (λ (c : FileObject). (from ≤ c.cell) × (c.cell < to) × (element (map resolved_object (a ∷ os)) (c.cell - from) ≡ Some (resolved_object c, 0))) e (omega arith, omega arith, first)
 stands_at (a ∷ os) from to (suc k) b s few sized h =
     let rest = stands_at os (from + a.length) to k b s.1 few (and_true (has_cells a.kind a.length) (list_all (λ (o : RObject). has_cells o.kind o.length) (map resolved_object os)) sized).1 h in
