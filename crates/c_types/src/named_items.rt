@@ -68,6 +68,7 @@ fn cells_of(length: i64) -> u64
     if length < 0 { 0 } else { length as u64 }
 }
 
+/// How many cells an object of the file has; none where its length is below 0, which is refused later.
 pub fn form_length(file: &FileNames, form: &ObjectForm) -> u64
     ensures answer { result ≡ spec.form_length file.now form.now }
 {

@@ -108,6 +108,7 @@ fn called_name(
     }
 }
 
+/// The function that a call names is known: `main`, or a function of the file that no local hides.
 pub fn called(
     alloc: Global,
     constants: &[Constant],
@@ -122,6 +123,7 @@ pub fn called(
     }
 }
 
+/// Every name of an expression is known where it stands.
 pub fn expr(
     alloc: Global,
     constants: &[Constant],
