@@ -4,3 +4,5 @@ pub mod Works
 pub mod Run
 -- how runs of a graph go on
 pub mod GoesOn
+-- the graphs that were made of a program
+pub mod Made

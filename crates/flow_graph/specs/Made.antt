@@ -1,0 +1,13 @@
+-- The graphs that were made of a program, as the definitions see them.
+use Rattle.std.specs.Prelude.{map}
+use Rattle.access_summary.specs.Edges.{entry_in, edges_in}
+use Rattle.flow_graph.specs.declared.graphs.FunctionGraph.{FunctionGraph}
+use Rattle.flow_graph.specs.declared.graphs.Graphs.{Graphs}
+use Rattle.flow_graph.specs.Run as run
+use Rattle.flow_graph.specs.Run.{Graph}
+
+abbrev pub graph_in : FunctionGraph → Graph
+graph_in g = record { locals = g.locals; entry = entry_in g.edges; edges = edges_in g.edges; works = g.works }
+
+abbrev pub graphs_in : Graphs → run.Graphs
+graphs_in g = record { main = graph_in g.main; functions = map graph_in g.functions }
