@@ -4,7 +4,6 @@ use Rattle.std.specs.Prelude.{slice_get, nat_le}
 use Rattle.std.specs.Option.{option_map}
 use Rattle.std.specs.List.{list_all, concat}
 use Rattle.c_tree.specs.declared.tree.Parameter.{Parameter}
-use Rattle.c_tree.specs.declared.tree.Function.{Function}
 use Rattle.c_tree.specs.declared.tree.Item.{Item}
 use Rattle.c_tree.specs.declared.tree.Item.TheVariants as item
 use Rattle.std.proofs.lemmas.List.{take_more}
@@ -14,17 +13,17 @@ use Rattle.c_types.proofs.Loops.{split}
 use Rattle.c_tree.specs.declared.resolved.RLocal.{RLocal}
 use Rattle.c_tree.specs.declared.resolved.RStmt.{RStmt}
 use Rattle.c_tree.specs.declared.resolved.RFunction.{RFunction}
-use Rattle.c_tree.specs.Kinds.{World, Signature, keeps_rules}
+use Rattle.c_tree.specs.Kinds.{Signature, keeps_rules}
 use Rattle.c_tree.specs.Excludes.{excludes, counts_from}
 use Rattle.c_tree.specs.Checked.{signature}
 use Rattle.c_types.specs.declared.bodies.MainBody.{MainBody}
 use Rattle.c_types.specs.declared.bodies.Bodies.{Bodies}
 use Rattle.c_types.specs.Scope.{Text, Env, entry, declare}
-use Rattle.c_types.specs.File.{File, cell_number}
+use Rattle.c_types.specs.File.{File}
 use Rattle.c_types.specs.FileNames as names
-use Rattle.c_types.specs.Fitting.{FitsFile, seen}
+use Rattle.c_types.specs.Fitting.{seen}
 use Rattle.c_types.specs.Kept.{Kept, marks}
-use Rattle.c_types.specs.Bodies.{with_parameters, function_frame, main_frame, made, made_main, crowded_with, crowded_by, with_function, with_main, no_bodies, items, item_after}
+use Rattle.c_types.specs.Bodies.{with_parameters, function_frame, main_frame, made, made_main, crowded_with, with_function, with_main, no_bodies, items, item_after}
 use Rattle.c_types.specs.BodiesKept.{FunctionKept, MainKept, BodiesKept}
 use Rattle.c_types.proofs.KeptLaws.{all_push}
 use Rattle.c_types.proofs.RuleLaws.{block_rules, block_excludes}

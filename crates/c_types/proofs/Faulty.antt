@@ -1,5 +1,5 @@
 -- The first fault of parts one after the other.
-use Rattle.std.proofs.Common.{◌≡◌, [], ◌∷◌, ◌++◌, Some, ◌∙◌, ap}
+use Rattle.std.proofs.Common.{◌≡◌, [], ◌∷◌, ◌++◌, Some, ap}
 use Rattle.c_types.specs.declared.fault.CheckFault.{CheckFault}
 use Rattle.c_types.specs.Faults.{Faults, IsFirst, first}
 

@@ -7,7 +7,7 @@ use Rattle.c_tree.specs.Kinds.{World}
 use Rattle.c_tree.specs.Excludes.{counts_from}
 use Rattle.c_types.specs.declared.types.Frame.{Frame}
 use Rattle.c_types.specs.File.{File}
-use Rattle.c_types.specs.Fitting.{Fits, FitsLocals, local_kind}
+use Rattle.c_types.specs.Fitting.{Fits, local_kind}
 use Rattle.c_types.specs.Kept.{Marks, Kept}
 use Rattle.c_types.proofs.Tests.{and_true}
 
@@ -95,5 +95,5 @@ module _ (file : File) (frame : Frame) {X : Type 0} (t : World → X → Bool) (
   pub kept_push : (old mid new : Marks) (done : List X) (x : X) → Kept file frame old mid (λ w. list_all (t w) done) (concat (map f done)) → Kept file frame mid new (λ w. t w x) (f x) → Kept file frame old new (λ w. list_all (t w) (done ++ x ∷ [])) (concat (map f (done ++ x ∷ [])))
   kept_push old mid new done x p q =
       kept_as file frame old new (λ w. list_all (t w) done && t w x) (λ w. list_all (t w) (done ++ x ∷ [])) (concat (map f done) ++ f x) (concat (map f (done ++ x ∷ [])))
-        (λ w h. all_push (t w) done x ∙ h) (sym (concat_push f done x))
-        (kept_join file frame old mid new (λ w. list_all (t w) done) (λ w. t w x) (concat (map f done)) (f x) p q)
+      (λ w h. all_push (t w) done x ∙ h) (sym (concat_push f done x))
+      (kept_join file frame old mid new (λ w. list_all (t w) done) (λ w. t w x) (concat (map f done)) (f x) p q)

@@ -1,9 +1,7 @@
 -- Loops that make a list of what the parts of a text become.
-use Rattle.std.proofs.Common.{◌≡◌, ℕ, ◌+◌, ◌<◌, Bool, List, [], ◌∷◌, ◌++◌, map, drop, length, get_or, Result, Ok, sym, ap, ◌∙◌}
+use Rattle.std.proofs.Common.{◌≡◌, ℕ, ◌+◌, ◌<◌, List, [], ◌∷◌, ◌++◌, map, drop, length, get_or, Result, Ok, sym, ap, ◌∙◌}
 use Rattle.c_types.specs.declared.fault.CheckFault.{CheckFault}
-use Rattle.c_types.specs.declared.types.Frame.{Frame}
 use Rattle.c_types.specs.Scope.{Env}
-use Rattle.c_types.specs.File.{File}
 use Rattle.c_types.specs.Places.{◌>>=◌}
 use Rattle.c_types.specs.Statements.{Part, all}
 use Rattle.c_types.proofs.Loops.{split}
@@ -25,9 +23,9 @@ made_step {X} {A} p xs i x a done old now new h e so does after =
     let s = ap (λ ys. all (map p ys)) (split xs i x h e) in
     record {
       does = sym (bind_cons (q.does new) done a)
-        ∙ ap (λ m. onto done (q.does m >>= (λ ys. Ok (a ∷ ys)))) (sym after)
-        ∙ ap (λ r. onto done (r >>= (λ y. q.does ((p x).after now) >>= (λ ys. Ok (y ∷ ys))))) (sym does)
-        ∙ ap (λ (t : Part (List A)). onto done (t.does now)) (sym s)
-        ∙ so.does;
+          ∙ ap (λ m. onto done (q.does m >>= (λ ys. Ok (a ∷ ys)))) (sym after)
+          ∙ ap (λ r. onto done (r >>= (λ y. q.does ((p x).after now) >>= (λ ys. Ok (y ∷ ys))))) (sym does)
+          ∙ ap (λ (t : Part (List A)). onto done (t.does now)) (sym s)
+          ∙ so.does;
       after = ap q.after (sym after) ∙ ap (λ (t : Part (List A)). t.after now) (sym s) ∙ so.after;
     }

@@ -1,5 +1,5 @@
 -- The rules and the directives of composed statements.
-use Rattle.std.proofs.Common.{◌≡◌, ℕ, Bool, true, false, ◌&&◌, List, [], ◌∷◌, ◌++◌, map, Option, Some, None, refl, sym, ap, ◌∙◌, append-nil}
+use Rattle.std.proofs.Common.{◌≡◌, ℕ, Bool, true, ◌&&◌, List, [], ◌∷◌, ◌++◌, map, Option, Some, None, refl, sym, ap, ◌∙◌, append-nil}
 use Rattle.std.specs.List.{list_all, concat}
 use Rattle.c_tree.specs.declared.resolved.RExpr.{RExpr}
 use Rattle.c_tree.specs.declared.resolved.RAssign.{RAssign}
@@ -7,7 +7,7 @@ use Rattle.c_tree.specs.declared.resolved.RInit.{RInit}
 use Rattle.c_tree.specs.declared.resolved.RArm.{RArm}
 use Rattle.c_tree.specs.declared.resolved.RStmt.{RStmt}
 use Rattle.c_tree.specs.declared.resolved.RStmt.TheVariants as s
-use Rattle.c_tree.specs.declared.resolved.RStmt.TheOpen.{RStmt-F, RArm-F}
+use Rattle.c_tree.specs.declared.resolved.RStmt.TheOpen.{RStmt-F}
 use Rattle.c_tree.specs.declared.resolved.RStmt.TheFolds.{fold-roll-RStmt, fold-roll-RArm}
 use Rattle.c_tree.specs.Kinds.{World, keeps_rules, keeps_rules_at, arm_keeps_rules_at, is_number, is_test, begins, updates}
 use Rattle.c_types.specs.Statements.{arm_of}

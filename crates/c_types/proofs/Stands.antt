@@ -1,5 +1,5 @@
 -- Objects that stand one after the other.
-use Rattle.std.proofs.Common.{◌≡◌, ℕ, ◌+◌, List, [], ◌∷◌, ◌++◌, arith, subst, sym, ap, ◌∙◌}
+use Rattle.std.proofs.Common.{◌≡◌, ℕ, ◌+◌, List, [], ◌∷◌, ◌++◌, sym, ap, ◌∙◌}
 use Rattle.c_types.specs.declared.file.FileObject.{FileObject}
 use Rattle.c_types.specs.File.{StandBetween, cell_number}
 

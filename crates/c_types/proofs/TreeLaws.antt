@@ -1,6 +1,6 @@
 -- A tree within the limits keeps what checked trees keep.
-use Rattle.std.proofs.Common.{◌≡◌, ℕ, zero, suc, ◌+◌, ◌-◌, ◌<◌, ◌≤◌, min, Bool, true, false, ◌&&◌, if◌then◌else◌, List, [], ◌∷◌, ◌++◌, map, length, Option, Some, None, refl, sym, ap, ◌∙◌, subst, arith}
-use Rattle.std.specs.Prelude.{slice_get, nat_eq, nat_le, nat_lt}
+use Rattle.std.proofs.Common.{◌≡◌, ℕ, zero, suc, ◌+◌, ◌-◌, ◌<◌, ◌≤◌, Bool, true, false, ◌&&◌, if◌then◌else◌, List, [], ◌∷◌, ◌++◌, map, length, Option, Some, None, refl, sym, ap, ◌∙◌, subst, arith}
+use Rattle.std.specs.Prelude.{slice_get, nat_le, nat_lt}
 use Rattle.std.specs.Option.{option_map, option_and_then}
 use Rattle.std.specs.List.{list_all}
 use Rattle.std.proofs.lemmas.Option.{slice_get-map, slice_get_within}
@@ -13,8 +13,7 @@ use Rattle.c_tree.specs.declared.resolved.RFunction.{RFunction}
 use Rattle.c_tree.specs.declared.resolved.Resolved.{Resolved}
 use Rattle.c_tree.specs.Nodes.{node_count}
 use Rattle.c_tree.specs.Layout.{object_cells}
-use Rattle.c_tree.specs.Excludes.{excludes}
-use Rattle.c_tree.specs.Kinds.{World, Signature, keeps_rules}
+use Rattle.c_tree.specs.Kinds.{keeps_rules}
 use Rattle.c_tree.specs.Checked.{IsChecked, variable_kind, element, file_variable, main_variable, local_kind, has_address, is_addressable, signature, in_main, in_function, has_cells, starts_rightly}
 use Rattle.c_types.specs.declared.file.FileObject.{FileObject}
 use Rattle.c_types.specs.declared.file.Signature as declared
@@ -22,7 +21,7 @@ use Rattle.c_types.specs.declared.bodies.MainBody.{MainBody}
 use Rattle.c_types.specs.declared.bodies.Bodies.{Bodies}
 use Rattle.c_types.specs.File.{File, StandBetween, cell_number}
 use Rattle.c_types.specs.Fitting.{FitsFile, seen}
-use Rattle.c_types.specs.BodiesKept.{FunctionKept, MainKept, BodiesKept}
+use Rattle.c_types.specs.BodiesKept.{BodiesKept}
 use Rattle.c_types.specs.declared.fault.CheckFault.{CheckFault}
 use Rattle.c_types.specs.declared.fault.CheckFault.TheVariants.{TooManyCells, TooManyNodes, TooManyDirectives}
 use Rattle.c_types.specs.Faults.{unless}
@@ -71,7 +70,7 @@ stands_at (a ∷ os) from to zero b s few sized h =
     let at : a.cell ≡ from = s.0 ∙ small_number from (omega arith) in
     let zero' : a.cell - from ≡ 0 = omega arith in
     let first : element (map resolved_object (a ∷ os)) (a.cell - from) ≡ Some (resolved_object a, 0) =
-        ap (element (map resolved_object (a ∷ os))) zero' ∙ ap (λ t. if t then Some (resolved_object a, 0) else element (map resolved_object os) (0 - a.length)) (lt_test 0 a.length one) in
+    ap (element (map resolved_object (a ∷ os))) zero' ∙ ap (λ t. if t then Some (resolved_object a, 0) else element (map resolved_object os) (0 - a.length)) (lt_test 0 a.length one) in
     subst (λ (c : FileObject). (from ≤ c.cell) × (c.cell < to) × (element (map resolved_object (a ∷ os)) (c.cell - from) ≡ Some (resolved_object c, 0))) e (omega arith, omega arith, first)
 stands_at (a ∷ os) from to (suc k) b s few sized h =
     let rest = stands_at os (from + a.length) to k b s.1 few (and_true (has_cells a.kind a.length) (list_all (λ (o : RObject). has_cells o.kind o.length) (map resolved_object os)) sized).1 h in

@@ -1,12 +1,11 @@
 -- What the items of a file become, or the first fault of their types (C99 6.9).
-use Rattle.std.specs.Prelude.{◌≡◌, ℕ, ◌+◌, Bool, true, false, if◌then◌else◌, List, [], ◌∷◌, ◌++◌, map, length, nat_le, Option, Some, None, Result, Ok, Err}
+use Rattle.std.specs.Prelude.{ℕ, Bool, false, if◌then◌else◌, List, [], ◌∷◌, ◌++◌, map, length, nat_le, Option, Some, None, Result, Ok, Err}
 use Rattle.c_tree.specs.declared.tree.Stmt.{Stmt}
 use Rattle.c_tree.specs.declared.tree.Parameter.{Parameter}
 use Rattle.c_tree.specs.declared.tree.ObjectDecl.{ObjectDecl}
 use Rattle.c_tree.specs.declared.tree.Function.{Function}
 use Rattle.c_tree.specs.declared.tree.Item.{Item}
 use Rattle.c_tree.specs.declared.tree.Item.TheVariants as item
-use Rattle.c_tree.specs.declared.resolved.RLocal.{RLocal}
 use Rattle.c_tree.specs.declared.resolved.RStmt.{RStmt}
 use Rattle.c_tree.specs.declared.resolved.RStmt.TheVariants as s
 use Rattle.c_tree.specs.declared.resolved.RFunction.{RFunction}

@@ -1,5 +1,5 @@
 -- What the bodies of a file keep.
-use Rattle.std.specs.Prelude.{◌≡◌, ℕ, ◌+◌, ◌≤◌, Bool, true, false, List, map, length, nat_le, Option, Some, None, Result, Ok, Err, slice_get}
+use Rattle.std.specs.Prelude.{◌≡◌, ℕ, ◌+◌, ◌≤◌, true, false, List, map, length, nat_le, Some, None, Result, Ok, Err, slice_get}
 use Rattle.std.specs.List.{list_all}
 use Rattle.c_tree.specs.declared.resolved.RLocal.{RLocal}
 use Rattle.c_tree.specs.declared.resolved.RFunction.{RFunction}

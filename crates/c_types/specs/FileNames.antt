@@ -1,5 +1,5 @@
 -- Which names of a file break a rule, in the order of the text (C99 6.9).
-use Rattle.std.specs.Prelude.{ℕ, ◌+◌, ℤ, pos, negsuc, neg_ℤ, Bool, true, false, not, ◌||◌, if◌then◌else◌, List, [], ◌∷◌, ◌++◌, map, length, codes, Option, Some, None, is_some}
+use Rattle.std.specs.Prelude.{ℕ, ◌+◌, ℤ, pos, negsuc, Bool, true, false, if◌then◌else◌, List, [], ◌∷◌, map, length, codes, Option, Some}
 use Rattle.std.specs.List.{list_any}
 use Rattle.std.specs.Int.{w64, int_wrapping_neg}
 use Rattle.c_tree.specs.declared.resolved.ObjectKind.{ObjectKind}
@@ -21,7 +21,7 @@ use Rattle.c_types.specs.declared.file.Meaning.{Meaning}
 use Rattle.c_types.specs.declared.file.Meaning.TheVariants as meaning
 use Rattle.c_types.specs.declared.file.Signature.{Signature}
 use Rattle.c_types.specs.declared.known.Known.{Known}
-use Rattle.c_types.specs.Faults.{Faults, unless}
+use Rattle.c_types.specs.Faults.{unless}
 use Rattle.c_types.specs.Scope.{Text, entry}
 use Rattle.c_types.specs.File.{File, global, is_constant, no_file, with_name, with_object, with_function}
 use Rattle.c_types.specs.Names.{Step, says, makes, nothing, joined, all, once, so_far, fresh, declares, stmt}

@@ -1,7 +1,6 @@
 -- What a resolved tree names is there, with its type: the world that it is seen in has the objects and functions of the file, and the locals of the function.
 use Rattle.std.specs.Prelude.{◌≡◌, ℕ, ◌+◌, Bool, true, false, List, Option, Some, None, is_some, slice_get}
 use Rattle.c_tree.specs.declared.resolved.RLocal.{RLocal}
-use Rattle.c_tree.specs.declared.resolved.RExpr.{RExpr}
 use Rattle.c_tree.specs.declared.resolved.RBinary.{RBinary}
 use Rattle.c_tree.specs.Kinds.{World, Signature, kind, of_binary, agree}
 use Rattle.c_tree.specs.Checked.{variable_kind, has_address}

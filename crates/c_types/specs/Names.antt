@@ -1,5 +1,5 @@
 -- Which names of a text break a rule, in the order of the text (C99 6.2.1, 6.7).
-use Rattle.std.specs.Prelude.{◌≡◌, ℕ, Bool, true, false, not, ◌&&◌, ◌||◌, List, [], ◌∷◌, ◌++◌, map, length, slice_range, Option, Some, None, Result, Ok, Err, is_some}
+use Rattle.std.specs.Prelude.{◌≡◌, ℕ, Bool, false, not, ◌&&◌, ◌||◌, List, [], ◌∷◌, ◌++◌, map, slice_range, Option, Some, None, Result, Ok, Err, is_some}
 use Rattle.std.specs.Option.{option_map}
 use Rattle.c_tree.specs.declared.tree.Name.{Name}
 use Rattle.c_tree.specs.declared.tree.Constant.{Constant}

@@ -1,6 +1,5 @@
 -- What statements become, or the first fault of their types (C99 6.7, 6.8).
-use Rattle.std.specs.Prelude.{◌≡◌, ℕ, ◌+◌, min, Bool, true, false, if◌then◌else◌, List, [], ◌∷◌, map, length, nat_eq, count_by, Option, Some, None, Result, Ok, Err, is_some}
-use Rattle.std.specs.Option.{option_map}
+use Rattle.std.specs.Prelude.{◌≡◌, ℕ, ◌+◌, min, Bool, true, false, if◌then◌else◌, List, [], ◌∷◌, map, length, nat_eq, count_by, Option, Some, None, Result, Ok, Err}
 use Rattle.c_tree.specs.declared.tree.Name.{Name}
 use Rattle.c_tree.specs.declared.tree.Expr.{Expr}
 use Rattle.c_tree.specs.declared.tree.Assign.{Assign}
@@ -29,10 +28,9 @@ use Rattle.c_types.specs.declared.fault.CheckFault.TheVariants.{WrongType, Wrong
 use Rattle.c_types.specs.declared.types.Frame.{Frame}
 use Rattle.c_types.specs.declared.places.Target.{Target}
 use Rattle.c_types.specs.Faults.{is_memory}
-use Rattle.c_types.specs.Scope.{Text, Env, enter, leave, declare, exclude}
-use Rattle.c_types.specs.File.{File, cell_number}
-use Rattle.c_types.specs.Types.{and_then, as_number, expr}
-use Rattle.c_types.specs.Places.{◌>>=◌, at, place_at, assigned, signature_of, number_of, count_of, number, fits, named, assign, call}
+use Rattle.c_types.specs.Scope.{Env, enter, leave, declare, exclude}
+use Rattle.c_types.specs.File.{File}
+use Rattle.c_types.specs.Places.{◌>>=◌, place_at, assigned, signature_of, number_of, count_of, number, fits, named, assign, call}
 
 -- a part of a text: what it becomes, and what is known after it
 pub record Part (A : Type 0) : Type 0 where

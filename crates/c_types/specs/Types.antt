@@ -1,6 +1,5 @@
 -- The types of expressions, and the resolved trees that they become (C99 6.5).
-use Rattle.std.specs.Prelude.{◌≡◌, ℕ, ◌+◌, ℤ, pos, Bool, true, false, if◌then◌else◌, List, Option, Some, None, Result, Ok, Err, slice_get}
-use Rattle.std.specs.Option.{option_map, option_and_then}
+use Rattle.std.specs.Prelude.{◌≡◌, ℕ, ◌+◌, ℤ, pos, Bool, true, false, if◌then◌else◌, Option, Some, None, Result, Ok, Err, slice_get}
 use Rattle.std.specs.Ordering.{int_eq}
 use Rattle.c_tree.specs.declared.tree.Unary.{Unary}
 use Rattle.c_tree.specs.declared.tree.Unary.TheVariants as unary

@@ -196,12 +196,7 @@ fn objects(file: &FileNames, line: u32, decls: &[ObjectDecl]) -> Result<(), Chec
     Ok(())
 }
 
-fn item(
-    alloc: Global,
-    file: &FileNames,
-    done: &mut Bodies,
-    item: &Item,
-) -> Result<(), CheckFault>
+fn item(alloc: Global, file: &FileNames, done: &mut Bodies, item: &Item) -> Result<(), CheckFault>
     ensures gives { Leaves (spec.item_after file.now done.old item.now) done.new result }
     ensures kept { (ss : List Signature) → OnOk result (BodiesKept file.now ss done.old → BodiesKept file.now (ss ++ map seen (names.signatures_of (item.now ∷ []))) done.new) }
 {

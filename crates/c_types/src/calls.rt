@@ -38,12 +38,7 @@ fn count_by(line: u32, parameters: usize, es: &[Expr]) -> Result<(), CheckFault>
     }
 }
 
-fn count_named(
-    file: &FileNames,
-    line: u32,
-    name: &Text,
-    es: &[Expr],
-) -> Result<(), CheckFault>
+fn count_named(file: &FileNames, line: u32, name: &Text, es: &[Expr]) -> Result<(), CheckFault>
     ensures gets { Gets (spec.count_of line (spec.named_signature file.now name.now) es.now) result }
 {
     let Some(number) = file.function(name) else {
@@ -56,12 +51,7 @@ fn count_named(
 }
 
 /// A call has a value for each parameter.
-pub fn count_of(
-    file: &FileNames,
-    line: u32,
-    callee: &Callee,
-    es: &[Expr],
-) -> Result<(), CheckFault>
+pub fn count_of(file: &FileNames, line: u32, callee: &Callee, es: &[Expr]) -> Result<(), CheckFault>
     ensures gets { Gets (spec.count_of line (spec.signature_of file.now callee.now) es.now) result }
 {
     match callee {

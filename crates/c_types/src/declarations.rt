@@ -50,7 +50,16 @@ fn starts_with_call(
     ensures kept { (w : World) (in_loop : Bool) → Fits w file.now frame scope.now.locals → local_kind w frame.first_cell (length scope.now.locals) ≡ Some is_pointer → IfOk result (λ r. keeps_rules w r in_loop ≡ true) }
 {
     let place = next_place(frame, scope)?;
-    let values = call(alloc, file, frame, scope, line, callee, es, Some(is_pointer))?;
+    let values = call(
+        alloc,
+        file,
+        frame,
+        scope,
+        line,
+        callee,
+        es,
+        Some(is_pointer),
+    )?;
     Ok(call_with(Some(place), number_of(file, callee), values))
 }
 
@@ -79,7 +88,16 @@ fn starts(
             Ok(RStmt::Declare(place, Some(value)))
         }
         Some(Given::Call(callee, es)) => {
-            starts_with_call(alloc, file, frame, scope, line, is_pointer, callee, es.as_slice())
+            starts_with_call(
+                alloc,
+                file,
+                frame,
+                scope,
+                line,
+                is_pointer,
+                callee,
+                es.as_slice(),
+            )
         }
         Some(Given::Input) => {
             if is_pointer {

@@ -79,12 +79,7 @@ fn global(file: &FileNames, meaning: Option<Meaning>) -> Result<Typed, Wrong>
 }
 
 /// What a name means.
-pub fn variable(
-    file: &FileNames,
-    frame: Frame,
-    scope: &Scope,
-    name: &Text,
-) -> Result<Typed, Wrong>
+pub fn variable(file: &FileNames, frame: Frame, scope: &Scope, name: &Text) -> Result<Typed, Wrong>
     ensures gives { Gives (spec.variable file.now frame scope.now name.now) result }
     ensures kept { (w : World) → FitsFile w file.now → FitsLocals w frame scope.now.locals → IfOk result (λ t. IsTyped w t) }
 {

@@ -205,12 +205,7 @@ impl FileNames {
     }
 
     /// Makes a function known by its number.
-    pub fn add_function(
-        &mut self,
-        alloc: Global,
-        name: &Text,
-        number: u32,
-    ) -> Result<(), NoMemory>
+    pub fn add_function(&mut self, alloc: Global, name: &Text, number: u32) -> Result<(), NoMemory>
         ensures answer { OnOk result (self.new ≡ spec.with_function self.old name.now number) }
     {
         let key = name.copy(alloc)?;

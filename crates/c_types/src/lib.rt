@@ -21,5 +21,5 @@ mod single;
 mod statements;
 mod types;
 
-pub use passes::check;
 pub use fault::CheckFault;
+pub use passes::check;

@@ -12,9 +12,7 @@ ghost use Rattle.c_types.specs.Check as spec;
 use crate::bodies::MainBody;
 use crate::fault::CheckFault;
 use crate::file::{FileNames, FileObject};
-use c_tree::{
-    MAIN_NODES, MAX_CELLS, MAX_EXCLUDES, ObjectKind, RArm, RFunction, RObject, RStmt,
-};
+use c_tree::{MAIN_NODES, MAX_CELLS, MAX_EXCLUDES, ObjectKind, RArm, RFunction, RObject, RStmt};
 use ckpt_base::Text;
 use sqlite_items::Items;
 use std::alloc::Global;
@@ -187,10 +185,7 @@ fn resolved_object(alloc: Global, object: &FileObject) -> Result<RObject, CheckF
 }
 
 /// The objects of the tree.
-pub fn resolved_objects(
-    alloc: Global,
-    objects: &[FileObject],
-) -> Result<Items<RObject>, CheckFault>
+pub fn resolved_objects(alloc: Global, objects: &[FileObject]) -> Result<Items<RObject>, CheckFault>
     ensures gets { Gets (Ok (map spec.resolved_object objects.now)) result }
     ensures sized { IfOk result (λ os. list_all (λ o. has_cells o.kind o.length) os ≡ true) }
     ensures firsts { IfOk result (λ os. list_all (λ o. starts_rightly o.kind o.first) os ≡ true) }

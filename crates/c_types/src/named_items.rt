@@ -65,11 +65,7 @@ fn form_kind(form: &ObjectForm) -> ObjectKind
 fn cells_of(length: i64) -> u64
     ensures answer { result ≡ spec.cells_of length }
 {
-    if length < 0 {
-        0
-    } else {
-        length as u64
-    }
+    if length < 0 { 0 } else { length as u64 }
 }
 
 pub fn form_length(file: &FileNames, form: &ObjectForm) -> u64
@@ -177,7 +173,13 @@ fn object(
 ) -> Result<(), CheckFault>
     ensures passes { Passes (spec.object constants.now decl.now) known.old known.new result }
 {
-    made_once(alloc, constants, known, decl.name.constants, &decl.name.text)?;
+    made_once(
+        alloc,
+        constants,
+        known,
+        decl.name.constants,
+        &decl.name.text,
+    )?;
     form(alloc, constants, known, &decl.form)?;
     add_decl(alloc, &mut known.file, decl)?;
     Ok(())
@@ -206,7 +208,9 @@ fn parameter(
     ensures passes { Passes (spec.parameter constants.now parameter.now) known.old known.new result }
 {
     fresh(alloc, constants, known, &parameter.name)?;
-    known.scope.declare(alloc, &parameter.name.text, parameter.is_pointer)?;
+    known
+        .scope
+        .declare(alloc, &parameter.name.text, parameter.is_pointer)?;
     Ok(())
 }
 
@@ -264,8 +268,20 @@ fn function(
 ) -> Result<(), CheckFault>
     ensures passes { Passes (spec.function_step constants.now function.now) known.old known.new result }
 {
-    function_named(alloc, constants, known, function.name.constants, &function.name.text)?;
-    within(alloc, constants, known, function.parameters.as_slice(), function.body.as_slice())?;
+    function_named(
+        alloc,
+        constants,
+        known,
+        function.name.constants,
+        &function.name.text,
+    )?;
+    within(
+        alloc,
+        constants,
+        known,
+        function.parameters.as_slice(),
+        function.body.as_slice(),
+    )?;
     Ok(())
 }
 

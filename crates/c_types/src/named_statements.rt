@@ -146,7 +146,9 @@ fn decl(
 {
     fresh(alloc, constants, known, &decl.name)?;
     perhaps_given(alloc, constants, known, &decl.given)?;
-    known.scope.declare(alloc, &decl.name.text, decl.is_pointer)?;
+    known
+        .scope
+        .declare(alloc, &decl.name.text, decl.is_pointer)?;
     Ok(())
 }
 

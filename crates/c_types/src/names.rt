@@ -39,15 +39,13 @@ fn constant(alloc: Global, known: &mut Known, constant: &Constant) -> Result<(),
     ensures passes { Passes (spec.constant constant.now) known.old known.new result }
 {
     once(alloc, known, &constant.name)?;
-    known.file.add_constant(alloc, &constant.name, constant.number)?;
+    known
+        .file
+        .add_constant(alloc, &constant.name, constant.number)?;
     Ok(())
 }
 
-fn each_constant(
-    alloc: Global,
-    known: &mut Known,
-    constants: &[Constant],
-) -> Result<(), CheckFault>
+fn each_constant(alloc: Global, known: &mut Known, constants: &[Constant]) -> Result<(), CheckFault>
     ensures passes { Passes (spec.all (map spec.constant constants.now)) known.old known.new result }
 {
     for c in constants {

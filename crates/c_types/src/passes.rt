@@ -35,11 +35,7 @@ pub fn check(alloc: Global, program: Program) -> Result<Checked, CheckFault>
 }
 
 /// The first pass: what is known at the end of the text.
-fn named(
-    alloc: Global,
-    constants: &[Constant],
-    items: &[Item],
-) -> Result<FileNames, CheckFault>
+fn named(alloc: Global, constants: &[Constant], items: &[Item]) -> Result<FileNames, CheckFault>
     ensures gets { Gets (spec.named constants.now items.now) result }
     ensures signatures { IfOk result (λ f. f.signatures ≡ names.signatures_of items.now) }
 {

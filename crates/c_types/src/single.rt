@@ -18,9 +18,7 @@ use crate::file::FileNames;
 use crate::places::{Target, assign, fits, named, number};
 use crate::scope::Scope;
 use crate::types::Frame;
-use c_tree::{
-    Assign, Callee, Expr, Exprs, Given, Name, PrintPiece, RAssign, RExpr, RPlace, RStmt,
-};
+use c_tree::{Assign, Callee, Expr, Exprs, Given, Name, PrintPiece, RAssign, RExpr, RPlace, RStmt};
 use sqlite_items::Items;
 use std::alloc::Global;
 

@@ -278,8 +278,9 @@ fn for_stmt(
     ensures kept { IfOk result (λ r. Kept file.now frame (marks scope.old) (marks scope.new) (λ w. keeps_rules w r in_loop) (excludes r)) }
 {
     scope.enter(alloc)?;
-    let resolved =
-        for_parts(alloc, file, frame, in_loop, scope, line, body, beginning, test, update)?;
+    let resolved = for_parts(
+        alloc, file, frame, in_loop, scope, line, body, beginning, test, update,
+    )?;
     scope.leave();
     Ok(resolved)
 }
@@ -308,7 +309,15 @@ fn stmt(
         Stmt::Input(l, name) => input_stmt(file, frame, scope, *l, name),
         Stmt::Put(l, e) => put_stmt(alloc, file, frame, scope, *l, e),
         Stmt::Print(l, pieces, es) => {
-            print_stmt(alloc, file, frame, scope, *l, pieces.as_slice(), es.as_slice())
+            print_stmt(
+                alloc,
+                file,
+                frame,
+                scope,
+                *l,
+                pieces.as_slice(),
+                es.as_slice(),
+            )
         }
         Stmt::Return(l, given) => return_stmt(alloc, file, frame, scope, *l, given),
         Stmt::If(l, each, behind) => {
@@ -325,7 +334,9 @@ fn stmt(
         }
         Stmt::For(l, beginning, test, update, body) => {
             let body = body.get();
-            for_stmt(alloc, file, frame, in_loop, scope, *l, body, beginning, test, update)
+            for_stmt(
+                alloc, file, frame, in_loop, scope, *l, body, beginning, test, update,
+            )
         }
         Stmt::Block(_, body) => block(alloc, file, frame, in_loop, scope, body.as_slice()),
         Stmt::Break(l) => break_stmt(*l, in_loop),

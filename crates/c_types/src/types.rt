@@ -234,5 +234,9 @@ pub fn element(alloc: Global, pointer: Typed, index: Typed) -> Result<RExpr, Wro
 {
     let p = as_pointer(pointer)?;
     let k = as_number(index)?;
-    Ok(RExpr::Move(Boxed::new(alloc, p)?, Boxed::new(alloc, k)?, Direction::Forward))
+    Ok(RExpr::Move(
+        Boxed::new(alloc, p)?,
+        Boxed::new(alloc, k)?,
+        Direction::Forward,
+    ))
 }

@@ -8,5 +8,5 @@ use Rattle.c_types.proofs.bodies.all_bodies.Given as goal
 abbrev pub invariant-loop-i : goal.invariant-loop-i
 invariant-loop-i l = record {
   made : spec.items l.file l.done (drop l.i-index l.items) ≡ spec.items l.file spec.no_bodies l.items;
-  kept : BodiesKept l.file (map seen (names.signatures_of (take l.i-index l.items))) l.done
+  kept : BodiesKept l.file (map seen (names.signatures_of (take l.i-index l.items))) l.done;
 }

@@ -10,4 +10,4 @@ use Rattle.c_types.proofs.declarations.declared.Goals as goal
 pub returns-clause-kept : goal.returns-clause-kept
 returns-clause-kept c in_loop =
     kept_as c.args.file.now c.args.frame (marks c.args.scope.now) (marks c.decls.new.scope) (λ w. list_all (λ r. keeps_rules w r in_loop) c.in_ok-stmts.stmts) _ (concat (map excludes c.in_ok-stmts.stmts)) _
-      (λ w h. block_rules w in_loop c.in_ok-stmts.stmts ∙ h) (sym (block_excludes c.in_ok-stmts.stmts)) (c.in_ok-stmts.ensures.kept in_loop)
+    (λ w h. block_rules w in_loop c.in_ok-stmts.stmts ∙ h) (sym (block_excludes c.in_ok-stmts.stmts)) (c.in_ok-stmts.ensures.kept in_loop)

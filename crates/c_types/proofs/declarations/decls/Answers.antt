@@ -1,4 +1,4 @@
-use Rattle.std.proofs.Common.{arith, sym}
+use Rattle.std.proofs.Common.{sym}
 use Rattle.c_tree.specs.Kinds.{keeps_rules}
 use Rattle.c_tree.specs.Excludes.{excludes}
 use Rattle.c_types.specs.Statements as spec

@@ -8,5 +8,5 @@ abbrev pub invariant-loop-o : goal.invariant-loop-o
 invariant-loop-o l = record {
   made : l.done ++ map spec.resolved_object (drop l.o-index l.objects) ≡ map spec.resolved_object l.objects;
   sized : list_all (λ o. has_cells o.kind o.length) l.done ≡ true;
-  firsts : list_all (λ o. starts_rightly o.kind o.first) l.done ≡ true
+  firsts : list_all (λ o. starts_rightly o.kind o.first) l.done ≡ true;
 }

@@ -1,4 +1,4 @@
-use Rattle.std.proofs.Common.{rules, arith, ◌<◌, ◌∙◌, length}
+use Rattle.std.proofs.Common.{arith, ◌<◌, ◌∙◌, length}
 use Rattle.c_types.proofs.Arguments.{given_push, args_step}
 use Rattle.c_types.proofs.places.args.Goals as goal
 

@@ -1,4 +1,4 @@
-use Rattle.std.proofs.Common.{◌≡◌, ◌+◌, sym, ◌∙◌, ap, rules, arith}
+use Rattle.std.proofs.Common.{◌≡◌, ◌+◌, sym, ◌∙◌, ap, arith}
 use Rattle.c_types.specs.File as spec
 use Rattle.c_types.proofs.Stands.{stands_push}
 use Rattle.c_types.proofs.file.FileNames.push_object.Goals as goal
