@@ -3,6 +3,8 @@
 
 mod bodies;
 mod calls;
+#[cfg(test)]
+mod check_tests;
 mod declarations;
 mod directives;
 mod expressions;
