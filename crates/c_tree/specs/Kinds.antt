@@ -106,10 +106,10 @@ is_variable w (place.At e) = false
 abbrev pub stores : World → RPlace → Option Bool → Bool
 stores w p value = agree (place_kind w p) value
 
--- .. where it is stored
+-- what a call answers may be stored, and is then stored in a variable
 abbrev pub answers : World → Option RPlace → Option Bool → Bool
 answers w None value = is_some value
-answers w (Some p) value = stores w p value
+answers w (Some p) value = is_variable w p && stores w p value
 
 abbrev pub starts : World → RPlace → Option RExpr → Bool
 starts w p None = is_variable w p
