@@ -7,3 +7,5 @@ pub mod Adding
 pub mod CallLaws
 -- the sets that the solver finds are the cells that functions may access
 pub mod SummaryLaws
+-- the small program keeps the rules
+pub mod CallingLaws

@@ -1,5 +1,6 @@
 -- Cells that an access may touch.
 use Rattle.std.specs.Prelude.{◌≡◌, ℕ, ◌+◌, ◌<◌, ◌≤◌, ◌⊎◌, ℤ, pos, negsuc, true, List, Option, Some, None, slice_get}
+use Rattle.ckpt_base.specs.Word.{signed, word_of}
 use Rattle.ckpt_base.specs.Pointer.{Object, first_cell, object_length}
 use Rattle.cell_sets.specs.Sets.{Cells, universe_of, has}
 use Rattle.c_tree.specs.declared.resolved.Resolved.{Resolved}
@@ -17,13 +18,17 @@ abbrev pub place_of : ℤ → Option ℕ
 place_of (pos n) = Some n
 place_of (negsuc n) = None
 
+-- the place that a number of the text is, as a word
+abbrev pub word_place : ℤ → Option ℕ
+word_place k = place_of (signed (word_of k))
+
 -- cell c lies in object o
 abbrev pub LiesIn : Resolved → ℕ → ℕ → Type 0
 LiesIn p o c = (b : Object) × (slice_get (objects p) o ≡ Some b) × (first_cell b ≤ c) × (c < first_cell b + object_length b)
 
 -- cell c is at place k of object o
 abbrev pub IsAtPlace : Resolved → ℕ → ℤ → ℕ → Type 0
-IsAtPlace p o k c = (b : Object) × (n : ℕ) × (slice_get (objects p) o ≡ Some b) × (place_of k ≡ Some n) × (n < object_length b) × (c ≡ first_cell b + n)
+IsAtPlace p o k c = (b : Object) × (n : ℕ) × (slice_get (objects p) o ≡ Some b) × (word_place k ≡ Some n) × (n < object_length b) × (c ≡ first_cell b + n)
 
 -- an access may touch cell c
 abbrev pub MayTouch : Resolved → Target → ℕ → Type 0

@@ -12,8 +12,8 @@ use ckpt_base::NoMemory;
 use sqlite_items::Items;
 use std::alloc::Global;
 
-/// A value is stored into a place, or none where it is absent.
-fn stored(
+/// Appends the effects of a declaration, whose value may be absent.
+pub fn declare_effects(
     effects: &mut Items<Effect>,
     function: Option<u32>,
     place: &RPlace,
@@ -26,8 +26,8 @@ fn stored(
     write(effects, target)
 }
 
-/// A value is stored into a place.
-fn assigned(
+/// Appends the effects of an assignment.
+pub fn assign_effects(
     effects: &mut Items<Effect>,
     function: Option<u32>,
     place: &RPlace,
@@ -40,7 +40,8 @@ fn assigned(
     write(effects, target)
 }
 
-fn call(
+/// Appends the effects of a call: those of its arguments, and the call.
+pub fn call_effects(
     effects: &mut Items<Effect>,
     function: Option<u32>,
     callee: u32,
@@ -52,8 +53,8 @@ fn call(
     push(effects, Effect::Call(callee))
 }
 
-/// A call, whose answer is stored where there is a place for it.
-fn called(
+/// Appends the effects of a call, whose answer is stored where there is a place for it.
+pub fn answer_effects(
     effects: &mut Items<Effect>,
     function: Option<u32>,
     place: &Option<RPlace>,
@@ -63,17 +64,17 @@ fn called(
     ensures answer { OnOk result (effects.new ≡ effects.old ++ spec.perhaps_stored function place.now (spec.call_effects function callee args.now)) }
 {
     match place {
-        None => call(effects, function, callee, args),
+        None => call_effects(effects, function, callee, args),
         Some(place) => {
             let target = pointer_effects(effects, function, place)?;
-            call(effects, function, callee, args)?;
+            call_effects(effects, function, callee, args)?;
             write(effects, target)
         }
     }
 }
 
-/// A byte of the input, stored where there is a place for it.
-fn input(
+/// Appends the effects of taking a byte of the input, which is stored where there is a place for it.
+pub fn input_effects(
     effects: &mut Items<Effect>,
     function: Option<u32>,
     place: &Option<RPlace>,
@@ -98,8 +99,13 @@ fn beginning(
 {
     match init {
         None => Ok(()),
-        Some(RInit::Declare(assign)) => assigned(effects, function, &assign.place, &assign.value),
-        Some(RInit::Set(assign)) => assigned(effects, function, &assign.place, &assign.value),
+        Some(RInit::Declare(assign)) => assign_effects(
+            effects,
+            function,
+            &assign.place,
+            &assign.value,
+        ),
+        Some(RInit::Set(assign)) => assign_effects(effects, function, &assign.place, &assign.value),
     }
 }
 
@@ -112,7 +118,7 @@ fn update(
 {
     match assign {
         None => Ok(()),
-        Some(assign) => assigned(effects, function, &assign.place, &assign.value),
+        Some(assign) => assign_effects(effects, function, &assign.place, &assign.value),
     }
 }
 
@@ -141,14 +147,19 @@ fn stmt_effects(
     ensures answer { OnOk result (effects.new ≡ effects.old ++ spec.stmt_effects function stmt.now) }
 {
     match stmt {
-        RStmt::Declare(place, value) => stored(effects, function, place, value),
-        RStmt::Set(place, value) => assigned(effects, function, place, value),
+        RStmt::Declare(place, value) => declare_effects(effects, function, place, value),
+        RStmt::Set(place, value) => assign_effects(effects, function, place, value),
         RStmt::Call(place, callee, args) => {
-            called(effects, function, place, *callee, args.as_slice())
+            answer_effects(effects, function, place, *callee, args.as_slice())
         }
-        RStmt::Input(place) => input(effects, function, place),
+        RStmt::Input(place) => input_effects(effects, function, place),
         RStmt::Return(value) => expr_effects(effects, function, value),
-        RStmt::ReturnCall(callee, args) => call(effects, function, *callee, args.as_slice()),
+        RStmt::ReturnCall(callee, args) => call_effects(
+            effects,
+            function,
+            *callee,
+            args.as_slice(),
+        ),
         RStmt::Put(value) => expr_effects(effects, function, value),
         RStmt::Print(_, args) => all_effects(effects, function, args.as_slice()),
         RStmt::If(arms, last) => {

@@ -13,10 +13,13 @@ mod edge_list;
 mod effects;
 mod summaries;
 #[cfg(test)]
+mod test_trees;
+#[cfg(test)]
 mod tests;
 mod touch;
 
+pub use bodies::{answer_effects, assign_effects, call_effects, declare_effects, input_effects};
 pub use edge_list::{Edge, EdgeList, Targets, edges};
-pub use effects::{Effect, Named, Target};
+pub use effects::{Effect, Named, Target, all_effects, expr_effects, pointer_effects};
 pub use summaries::{Summaries, find_summaries};
-pub use touch::Access;
+pub use touch::{Access, add_source, place_below};

@@ -60,9 +60,9 @@ fn add_object(row: &mut BitRow, program: &Checked, object: u32)
 }
 
 /// A number as a place, where it is below the length.
-fn place_below(number: i64, length: u32) -> Option<u32>
-    ensures some { IfSome result (λ n. (spec.place_of number ≡ Some n) × (n < length)) }
-    ensures none { result ≡ None → (n : ℕ) → spec.place_of number ≡ Some n → length ≤ n }
+pub fn place_below(number: i64, length: u32) -> Option<u32>
+    ensures some { IfSome result (λ n. (spec.word_place number ≡ Some n) × (n < length)) }
+    ensures none { result ≡ None → (n : ℕ) → spec.word_place number ≡ Some n → length ≤ n }
 {
     if number < 0 || number >= length as i64 {
         return None;
@@ -92,8 +92,8 @@ fn add_objects(row: &mut BitRow, program: &Checked, objects: &[u32])
     }
 }
 
-/// Adds the cells of every object that the source may give.
-fn add_source(
+/// Adds the cells of every object that the source may give, as far as they are below the width of the row.
+pub fn add_source(
     alloc: Global,
     row: &mut BitRow,
     program: &Checked,
