@@ -13,3 +13,5 @@ pub mod Fused
 pub mod BodyLaws
 pub mod TreeLaws
 pub mod Passing
+-- what declarations of the file make has its cells, and starts as it may
+pub mod Forms

@@ -1,8 +1,10 @@
 -- What a name means at file scope (C99 6.2.1).
 use Rattle.std.specs.Prelude.{◌≡◌, ℕ, ◌+◌, ℤ, pos, min, Bool, true, false, List, [], ◌∷◌, ◌++◌, length, Option, Some, None, is_some, slice_get}
+use Rattle.std.specs.List.{list_all}
 use Rattle.std.specs.Map.{lookup}
 use Rattle.indexmap.specs.IndexMap.{insert_entry}
 use Rattle.c_tree.specs.declared.resolved.ObjectKind.{ObjectKind}
+use Rattle.c_tree.specs.Checked.{has_cells, starts_rightly}
 use Rattle.c_types.specs.declared.file.Meaning.{Meaning}
 use Rattle.c_types.specs.declared.file.Meaning.TheVariants as meaning
 use Rattle.c_types.specs.declared.file.FileObject.{FileObject}
@@ -72,3 +74,8 @@ with_signatures file ss = record file { signatures = ss }
 abbrev pub StandBetween : ℕ → List FileObject → ℕ → Type 0
 StandBetween from [] to = from ≡ to
 StandBetween from (o ∷ os) to = (o.cell ≡ cell_number from) × StandBetween (from + o.length) os to
+
+-- each object has as many cells as its kind may have, and starts as its kind may
+pub record AreFormed (os : List FileObject) : Type 0 where
+  pub sized : list_all (λ o. has_cells o.kind o.length) os ≡ true
+  pub firsts : list_all (λ o. starts_rightly o.kind o.first) os ≡ true

@@ -1,5 +1,5 @@
 -- Which names of a file break a rule, in the order of the text (C99 6.9).
-use Rattle.std.specs.Prelude.{ℕ, ◌+◌, ℤ, pos, negsuc, neg_ℤ, Bool, true, false, not, ◌||◌, if◌then◌else◌, List, [], ◌∷◌, ◌++◌, map, length, codes, Option, Some, None, is_some}
+use Rattle.std.specs.Prelude.{ℕ, ◌+◌, max, ℤ, pos, negsuc, neg_ℤ, Bool, true, false, not, ◌||◌, if◌then◌else◌, List, [], ◌∷◌, ◌++◌, map, length, codes, Option, Some, None, is_some}
 use Rattle.std.specs.List.{list_any}
 use Rattle.std.specs.Int.{w64, int_wrapping_neg}
 use Rattle.c_tree.specs.declared.resolved.ObjectKind.{ObjectKind}
@@ -43,7 +43,7 @@ form_kind (form.Started minus l) = kind.Number
 form_kind (form.Array l) = kind.Array
 form_kind form.Pointer = kind.Pointer
 
--- a length below 0 is refused, and counts no cells
+-- a length below 0 counts no cells
 abbrev pub cells_of : ℤ → ℕ
 cells_of (pos n) = n
 cells_of (negsuc n) = 0
@@ -53,6 +53,10 @@ form_length file form.Number = 1
 form_length file (form.Started minus l) = 1
 form_length file (form.Array l) = cells_of (length_value file l)
 form_length file form.Pointer = 1
+
+-- an array of no cells is refused by its type; its name stands for one cell until then
+abbrev pub form_cells : File → ObjectForm → ℕ
+form_cells file f = max (form_length file f) 1
 
 abbrev pub negated_if : Bool → ℤ → ℤ
 negated_if minus v = if minus then int_wrapping_neg w64 v else v
@@ -64,7 +68,7 @@ form_first file (form.Array l) = pos 0
 form_first file form.Pointer = pos 0
 
 abbrev pub with_decl : File → ObjectDecl → File
-with_decl file d = with_object file d.name.text (form_kind d.form) (form_length file d.form) (form_first file d.form)
+with_decl file d = with_object file d.name.text (form_kind d.form) (form_cells file d.form) (form_first file d.form)
 
 abbrev pub main_name : Text
 main_name = codes "main"

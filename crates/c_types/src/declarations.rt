@@ -1,9 +1,9 @@
 //! Declarations of locals, and the heads of `for`.
 #![tactic(auto)]
 
-ghost use Rattle.std.specs.Prelude.{◌≡◌, [], ℕ, Bool, Some, true, false, Ok, IfOk, map, length};
+ghost use Rattle.std.specs.Prelude.{◌≡◌, [], ℕ, Bool, Some, true, false, Ok, IfOk, is_some, map, length};
 ghost use Rattle.std.specs.List.{list_all, concat};
-ghost use Rattle.c_tree.specs.Kinds.{World, keeps_rules, place_kind};
+ghost use Rattle.c_tree.specs.Kinds.{World, keeps_rules, place_kind, is_variable};
 ghost use Rattle.c_tree.specs.Excludes.{excludes};
 ghost use Rattle.c_types.specs.Places.{Gets};
 ghost use Rattle.c_types.specs.Statements as spec;
@@ -26,6 +26,7 @@ use std::alloc::Global;
 pub fn next_place(frame: Frame, scope: &Scope) -> Result<RPlace, CheckFault>
     ensures gets { Gets (Ok (spec.next_place frame scope.now)) result }
     ensures kept { (w : World) → IfOk result (λ p. place_kind w p ≡ local_kind w frame.first_cell (length scope.now.locals)) }
+    ensures variable { (w : World) → IfOk result (λ p. is_variable w p ≡ is_some (local_kind w frame.first_cell (length scope.now.locals))) }
 {
     let number = scope.locals().len();
     if number >= u32::MAX as usize {

@@ -1,9 +1,10 @@
 //! The names that are known at a place of a file.
 
-ghost use Rattle.std.specs.Prelude.{◌≡◌, OnOk, is_some, slice_get};
+ghost use Rattle.std.specs.Prelude.{◌≡◌, OnOk, is_some, slice_get, true};
 ghost use Rattle.std.specs.Option.{option_copied};
 ghost use Rattle.c_types.specs.File as spec;
-ghost use Rattle.c_types.specs.File.{StandBetween};
+ghost use Rattle.c_tree.specs.Checked.{has_cells, starts_rightly};
+ghost use Rattle.c_types.specs.File.{StandBetween, AreFormed};
 
 use c_tree::ObjectKind;
 use ckpt_base::{NoMemory, Text};
@@ -59,13 +60,13 @@ pub struct FileNames {
 }
 
 impl Model for FileNames {
-    ghost use Rattle.c_types.specs.File.{File, StandBetween};
+    ghost use Rattle.c_types.specs.File.{File, StandBetween, AreFormed};
 
     ghost Value = { File };
 
     ghost view = { λ f. record { names = f.names.entries; made = f.made; objects = f.objects; cells = f.cells; functions = f.functions.entries; signatures = f.signatures } };
 
-    ghost invariant = { λ f. StandBetween 0 f.objects f.cells };
+    ghost invariant = { λ f. record { stand : StandBetween 0 f.objects f.cells; formed : AreFormed f.objects } };
 }
 
 impl FileNames {
@@ -122,6 +123,7 @@ impl FileNames {
     pub fn objects(&self) -> &[FileObject]
         ensures answer { result.now ≡ self.now.objects }
         ensures stand { StandBetween 0 self.now.objects self.now.cells }
+        ensures formed { AreFormed self.now.objects }
     {
         self.objects.as_slice()
     }
@@ -173,6 +175,8 @@ impl FileNames {
         length: u64,
         first: i64,
     ) -> Result<(), NoMemory>
+        requires sized { has_cells kind length ≡ true }
+        requires first { starts_rightly kind first ≡ true }
         ensures answer { OnOk result (self.new ≡ spec.with_object self.old name.now kind length first) }
     {
         let number = self.objects().len();
@@ -194,6 +198,8 @@ impl FileNames {
     /// Puts an object behind the others.
     fn push_object(&mut self, object: FileObject) -> Result<(), NoMemory>
         requires place { object.cell ≡ spec.cell_number self.old.cells }
+        requires sized { has_cells object.kind object.length ≡ true }
+        requires first { starts_rightly object.kind object.first ≡ true }
         ensures answer { OnOk result (self.new ≡ spec.with_cells_of self.old object) }
     {
         let Some(cells) = self.cells.checked_add(object.length as u128) else {

@@ -1,10 +1,9 @@
 //! The last pass: the limits of a program, and its tree.
 #![tactic(auto, using(crate::proofs::Faulty::front, crate::proofs::Faulty::behind))]
 
-ghost use Rattle.std.specs.Prelude.{◌≡◌, ◌<◌, true, Some, Ok, IfOk, IfSome, length, map, nat_lt};
-ghost use Rattle.std.specs.List.{list_all};
+ghost use Rattle.std.specs.Prelude.{◌≡◌, ◌<◌, ◌≤◌, true, Some, Ok, IfOk, IfSome, length, map, nat_lt};
+ghost use Rattle.std.specs.List.{list_all, All};
 ghost use Rattle.c_tree.specs.Nodes as nodes;
-ghost use Rattle.c_tree.specs.Checked.{has_cells, starts_rightly};
 ghost use Rattle.c_types.specs.Faults.{Finds};
 ghost use Rattle.c_types.specs.Places.{Gets};
 ghost use Rattle.c_types.specs.Check as spec;
@@ -12,8 +11,8 @@ ghost use Rattle.c_types.specs.Check as spec;
 use crate::bodies::MainBody;
 use crate::fault::CheckFault;
 use crate::file::{FileNames, FileObject};
-use c_tree::{MAIN_NODES, MAX_CELLS, MAX_EXCLUDES, ObjectKind, RArm, RFunction, RObject, RStmt};
-use ckpt_base::Text;
+use c_tree::{MAIN_NODES, MAX_CELLS, MAX_EXCLUDES, RArm, RFunction, RObject, RStmt};
+use ckpt_base::{NoMemory, Text};
 use sqlite_items::Items;
 use std::alloc::Global;
 
@@ -143,52 +142,23 @@ pub fn limits(
     few_excludes(main)
 }
 
-/// Whether an object of the kind has so many cells.
-fn fits_kind(kind: ObjectKind, length: u64) -> bool
-    ensures answer { result ≡ has_cells kind length }
+/// An object of the tree.
+fn resolved_object(alloc: Global, object: &FileObject) -> Result<RObject, NoMemory>
+    requires few { object.now.length ≤ 262144 }
+    ensures answer { IfOk result (λ o. o ≡ spec.resolved_object object.now) }
 {
-    match kind {
-        ObjectKind::Number => length == 1,
-        ObjectKind::Array => 1 <= length,
-        ObjectKind::Pointer => length == 1,
-    }
-}
-
-/// Whether an object of the kind starts with the number.
-fn fits_first(kind: ObjectKind, first: i64) -> bool
-    ensures answer { result ≡ starts_rightly kind first }
-{
-    match kind {
-        ObjectKind::Number => true,
-        ObjectKind::Array => first == 0,
-        ObjectKind::Pointer => first == 0,
-    }
-}
-
-/// An object of the tree. The passes before have seen to its length and its first number.
-fn resolved_object(alloc: Global, object: &FileObject) -> Result<RObject, CheckFault>
-    ensures gets { Gets (Ok (spec.resolved_object object.now)) result }
-    ensures sized { IfOk result (λ o. has_cells o.kind o.length ≡ true) }
-    ensures first { IfOk result (λ o. starts_rightly o.kind o.first ≡ true) }
-{
-    let kind = object.kind;
-    let fits = fits_kind(kind, object.length) && fits_first(kind, object.first);
-    if !fits || object.length > MAX_CELLS as u64 {
-        return Err(CheckFault::Memory);
-    }
     Ok(RObject {
         name: object.name.copy(alloc)?,
-        kind,
+        kind: object.kind,
         length: object.length as u32,
         first: object.first,
     })
 }
 
 /// The objects of the tree.
-pub fn resolved_objects(alloc: Global, objects: &[FileObject]) -> Result<Items<RObject>, CheckFault>
-    ensures gets { Gets (Ok (map spec.resolved_object objects.now)) result }
-    ensures sized { IfOk result (λ os. list_all (λ o. has_cells o.kind o.length) os ≡ true) }
-    ensures firsts { IfOk result (λ os. list_all (λ o. starts_rightly o.kind o.first) os ≡ true) }
+pub fn resolved_objects(alloc: Global, objects: &[FileObject]) -> Result<Items<RObject>, NoMemory>
+    requires few { All (λ o. o.length ≤ 262144) objects.now }
+    ensures answer { IfOk result (λ os. os ≡ map spec.resolved_object objects.now) }
 {
     let mut done = Items::new(alloc);
     for o in objects {

@@ -68,7 +68,7 @@ fn cells_of(length: i64) -> u64
     if length < 0 { 0 } else { length as u64 }
 }
 
-/// How many cells an object of the file has; none where its length is below 0, which is refused later.
+/// How many cells an object of the file is to have; none where its length is below 0.
 pub fn form_length(file: &FileNames, form: &ObjectForm) -> u64
     ensures answer { result ≡ spec.form_length file.now form.now }
 {
@@ -76,6 +76,13 @@ pub fn form_length(file: &FileNames, form: &ObjectForm) -> u64
         ObjectForm::Array(length) => cells_of(length_value(file, length)),
         _ => 1,
     }
+}
+
+/// How many cells an object of the file has. An array of none is refused by its type, and has one until then.
+fn form_cells(file: &FileNames, form: &ObjectForm) -> u64
+    ensures answer { result ≡ spec.form_cells file.now form.now }
+{
+    form_length(file, form).max(1)
 }
 
 fn negated_if(minus: bool, number: i64) -> i64
@@ -160,7 +167,7 @@ fn add_decl(alloc: Global, file: &mut FileNames, decl: &ObjectDecl) -> Result<()
     ensures answer { OnOk result (file.new ≡ spec.with_decl file.old decl.now) }
 {
     let kind = form_kind(&decl.form);
-    let length = form_length(file, &decl.form);
+    let length = form_cells(file, &decl.form);
     let first = form_first(file, &decl.form);
     file.add_object(alloc, &decl.name.text, kind, length, first)
 }

@@ -1,8 +1,8 @@
 //! What stands in a statement of a line: numbers, values of a type, places, assignments and calls.
 #![tactic(auto)]
 
-ghost use Rattle.std.specs.Prelude.{◌≡◌, ◌∷◌, Some, true, false, IfOk, IfSome, length, slice_get};
-ghost use Rattle.c_tree.specs.Kinds.{World, kind, place_kind, assigns, are_given};
+ghost use Rattle.std.specs.Prelude.{◌≡◌, ◌∷◌, Some, true, false, IfOk, IfSome, is_some, length, slice_get};
+ghost use Rattle.c_tree.specs.Kinds.{World, kind, place_kind, is_variable, assigns, are_given};
 ghost use Rattle.c_types.specs.Scope as scoped;
 ghost use Rattle.c_types.specs.File as files;
 ghost use Rattle.c_types.specs.Places as spec;
@@ -109,6 +109,7 @@ pub fn fits(
 pub fn place_at(first_cell: Option<u32>, number: u32) -> RPlace
     ensures answer { result ≡ spec.place_at first_cell number }
     ensures kept { (w : World) → place_kind w result ≡ local_kind w first_cell number }
+    ensures variable { (w : World) → is_variable w result ≡ is_some (local_kind w first_cell number) }
 {
     match first_cell {
         None => RPlace::Local(number),
@@ -161,6 +162,7 @@ fn global_target(file: &FileNames, meaning: Option<Meaning>) -> Option<Target>
 fn name_target(file: &FileNames, frame: Frame, scope: &Scope, name: &Text) -> Option<Target>
     ensures answer { result ≡ spec.name_target file.now frame scope.now (scoped.local scope.now name.now) (files.global file.now name.now) }
     ensures kept { (w : World) → Fits w file.now frame scope.now.locals → IfSome result (λ t. place_kind w t.place ≡ Some t.is_pointer) }
+    ensures variable { (w : World) → Fits w file.now frame scope.now.locals → IfSome result (λ t. is_variable w t.place ≡ true) }
 {
     match scope.local(name) {
         None => global_target(file, file.global(name)),
@@ -178,6 +180,7 @@ pub fn named(
 ) -> Result<Target, CheckFault>
     ensures gets { Gets (spec.named file.now frame scope.now line name.now) result }
     ensures kept { (w : World) → Fits w file.now frame scope.now.locals → IfOk result (λ t. place_kind w t.place ≡ Some t.is_pointer) }
+    ensures variable { (w : World) → Fits w file.now frame scope.now.locals → IfOk result (λ t. is_variable w t.place ≡ true) }
 {
     match name_target(file, frame, scope, name) {
         None => Err(CheckFault::WrongType(line)),

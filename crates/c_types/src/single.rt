@@ -3,7 +3,7 @@
 
 ghost use Rattle.std.specs.Prelude.{◌≡◌, [], ℕ, Bool, is_some, Some, true, false, IfOk, IfSome, length, count_by};
 ghost use Rattle.std.specs.List.{list_all};
-ghost use Rattle.c_tree.specs.Kinds.{World, kind, is_number, is_hole, keeps_rules, answers, call_kind, place_kind};
+ghost use Rattle.c_tree.specs.Kinds.{World, kind, is_number, is_hole, keeps_rules, answers, call_kind, place_kind, is_variable};
 ghost use Rattle.c_tree.specs.Excludes.{excludes};
 ghost use Rattle.c_types.specs.Places as places;
 ghost use Rattle.c_types.specs.Places.{Gets};
@@ -32,6 +32,7 @@ fn answer(
 ) -> Result<Option<Target>, CheckFault>
     ensures gets { Gets (spec.answer file.now frame line name.now scope.now) result }
     ensures kept { (w : World) → Fits w file.now frame scope.now.locals → IfOk result (λ t. IfSome t (λ x. place_kind w x.place ≡ Some x.is_pointer)) }
+    ensures variable { (w : World) → Fits w file.now frame scope.now.locals → IfOk result (λ t. IfSome t (λ x. is_variable w x.place ≡ true)) }
 {
     match name {
         None => Ok(None),
