@@ -1,5 +1,5 @@
 -- One pass finds the only depths.
-use Rattle.std.proofs.Common.{◌≡◌, ◌≢◌, ℕ, zero, suc, ◌+◌, ◌-◌, ◌^◌, ◌<◌, ◌≤◌, List, length, get_or, Some, refl, sym, ap, ◌∙◌, subst, inl, inr, ⊎_elim, arith}
+use Rattle.std.proofs.Common.{◌≡◌, ℕ, ◌+◌, ◌-◌, ◌<◌, ◌≤◌, List, length, Some, sym, ap, ◌∙◌, subst, inl, inr, ⊎_elim, arith}
 use Rattle.std.specs.Prelude.{slice_get, slice_index, ◌⊎◌}
 use Rattle.std.proofs.lemmas.Bool.{cases_lt}
 use Rattle.std.proofs.lemmas.List.{same_lists, get_or_past}
@@ -9,7 +9,7 @@ use Rattle.machine_code.specs.declared.instr.Instr.{Instr}
 use Rattle.machine_code.specs.declared.instr.Instr.TheVariants.{Jump, JumpZ, Ret}
 use Rattle.machine_code.specs.CodeView.{CodeView}
 use Rattle.machine_code.specs.Needs.{needs, gives}
-use Rattle.machine_code.specs.Forced.{GoesOn, Forward, AreForced, Known}
+use Rattle.machine_code.specs.Forced.{Forward, AreForced, Known}
 
 is_or : (a b : ℕ) → (a ≡ b) ⊎ (a ≡ b → ⊥)
 is_or a b = ⊎_elim (λ lt. inr (λ e. absurd (omega arith))) (λ ge. ⊎_elim (λ gt. inr (λ e. absurd (omega arith))) (λ le. inl (omega arith)) (cases_lt b a)) (cases_lt a b)

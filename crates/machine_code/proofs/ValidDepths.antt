@@ -1,16 +1,15 @@
 -- The depths of a valid code are those that earlier instructions force.
-use Rattle.std.proofs.Common.{◌≡◌, ◌≢◌, ℕ, zero, suc, ◌+◌, ◌-◌, ◌^◌, ◌<◌, ◌≤◌, List, [], ◌∷◌, length, get_or, Some, refl, sym, ap, ◌∙◌, subst, inl, inr, ⊎_elim, arith}
+use Rattle.std.proofs.Common.{◌≡◌, ◌≢◌, ℕ, zero, suc, ◌+◌, ◌-◌, ◌^◌, ◌<◌, ◌≤◌, List, [], ◌∷◌, length, Some, refl, sym, ap, ◌∙◌, subst, inl, inr, ⊎_elim, arith}
 use Rattle.std.specs.Prelude.{slice_get, slice_index, ◌⊎◌}
 use Rattle.std.proofs.lemmas.Bool.{cases_lt}
 use Rattle.std.proofs.lemmas.List.{get_or_past}
 use Rattle.std.proofs.lemmas.Option.{slice_get_within}
 use Rattle.machine_code.specs.declared.instr.Instr.{Instr}
-use Rattle.machine_code.specs.declared.instr.Instr.TheVariants.{Tick, Num, Addr, LoadC, StoreC, LoadL, StoreL, Move, Back, Fetch, Put, Add, Sub, Mul, Div, Rem, Shl, Shr, And, Or, Xor, Neg, Not, Inv, Test, Eq, Ne, Lt, Le, Gt, Ge, Jump, JumpZ, Call, Ret, Drop, OutC, OutB, OutN, In, Ckpt, Excl}
+use Rattle.machine_code.specs.declared.instr.Instr.TheVariants.{Tick, Jump, JumpZ, Ret}
 use Rattle.machine_code.specs.CodeView.{CodeView}
 use Rattle.machine_code.specs.Needs.{needs, gives, EachNext}
-use Rattle.machine_code.specs.Valid.{IsNext, Stands, StandsAt, NoneComesTo, AreDepths, IsValid, LevelAt}
-use Rattle.machine_code.specs.Forced.{GoesOn, Forward, AreForced}
-use Rattle.machine_code.proofs.Forced.{forward_lt}
+use Rattle.machine_code.specs.Valid.{IsNext, Stands, StandsAt, AreDepths, IsValid, LevelAt}
+use Rattle.machine_code.specs.Forced.{Forward, AreForced}
 
 pub some_at : {X : Type 0} (xs : List X) (k : ℕ) → k < length xs → (x : X) × (slice_get xs k ≡ Some x)
 some_at [] k h = absurd (omega arith)

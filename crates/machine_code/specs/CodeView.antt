@@ -1,5 +1,5 @@
 -- What contracts see of a code.
-use Rattle.std.specs.Prelude.{◌≡◌, ℕ, ◌==◌, ◌≤◌, max, nat_le, List, [], ◌∷◌, if◌then◌else◌}
+use Rattle.std.specs.Prelude.{ℕ, ◌==◌, max, nat_le, List, [], ◌∷◌, if◌then◌else◌}
 use Rattle.ckpt_base.specs.Pointer.{Object}
 use Rattle.machine_code.specs.declared.instr.Instr.{Instr}
 

@@ -12,8 +12,8 @@ pub mod State
 pub mod Row
 -- runs of a code over a plain memory
 pub mod Run
--- laws of runs
-pub mod RunLaws
+-- rows that leave everything
+pub mod Still
 -- the listing
 pub mod Listing
 -- the depths that earlier instructions force

@@ -1,5 +1,5 @@
 -- What each instruction does.
-use Rattle.std.specs.Prelude.{◌≡◌, ℕ, ◌+◌, ◌-◌, ◌*◌, ◌/◌, ◌%◌, ◌^◌, List, [], ◌∷◌, ◌++◌, Bool, true, false, cond, not, nat_lt, map, length, drop, take, reverse, replicate, slice_index, slice_get, slice_set, Option, Some, None, Result, Ok, Err, neg_ℤ}
+use Rattle.std.specs.Prelude.{ℕ, ◌+◌, ◌-◌, ◌/◌, List, [], ◌∷◌, ◌++◌, Bool, cond, not, nat_lt, map, length, drop, take, reverse, replicate, slice_index, slice_get, slice_set, Option, Some, None, Result, Ok, Err, neg_ℤ}
 use Rattle.std.specs.Fmt.{signed_decimal}
 use Rattle.ckpt_base.specs.declared.trap.Trap.{Trap}
 use Rattle.ckpt_base.specs.declared.trap.Trap.TheVariants.{TooManyCalls}

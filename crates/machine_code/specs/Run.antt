@@ -1,5 +1,5 @@
 -- Runs of a code over a plain memory: instruction after instruction, with no page protected.
-use Rattle.std.specs.Prelude.{◌≡◌, ℕ, zero, suc, ◌+◌, ◌≤◌, ◌^◌, ◌-◌, List, [], ◌∷◌, ◌++◌, Bool, true, false, Option, Some, None, slice_get}
+use Rattle.std.specs.Prelude.{◌≡◌, ℕ, zero, suc, ◌+◌, ◌≤◌, ◌^◌, ◌-◌, List, [], ◌∷◌, ◌++◌, Bool, false, Option, Some, None, slice_get}
 use Rattle.ckpt_base.specs.declared.ending.Ending.{Ending}
 use Rattle.ckpt_base.specs.declared.ending.Ending.TheVariants as ending
 use Rattle.ckpt_base.specs.Event as run
@@ -7,7 +7,7 @@ use Rattle.ckpt_base.specs.Run.{Run}
 use Rattle.machine_code.specs.declared.instr.Instr.{Instr}
 use Rattle.machine_code.specs.declared.instr.Instr.TheVariants.{In}
 use Rattle.machine_code.specs.declared.event.Event.{Event}
-use Rattle.machine_code.specs.declared.event.Event.TheVariants.{Ticked, WantsInput, Ended, Trapped}
+use Rattle.machine_code.specs.declared.event.Event.TheVariants.{Ticked, Ended, Trapped}
 use Rattle.machine_code.specs.CodeView.{CodeView}
 use Rattle.machine_code.specs.State.{State, given}
 use Rattle.machine_code.specs.Row.{Done, row, ran}

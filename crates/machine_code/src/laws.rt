@@ -7,7 +7,7 @@ ghost use Rattle.machine_code.specs.CodeView.{CodeView};
 ghost use Rattle.machine_code.specs.State.{State};
 ghost use Rattle.machine_code.specs.Row.{row};
 ghost use Rattle.machine_code.specs.Run.{World, Reaches, CodeRun, after_row, fed};
-ghost use Rattle.machine_code.specs.RunLaws.{IsPlainOrStill};
+ghost use Rattle.machine_code.specs.Still.{IsPlainOrStill};
 
 /// Whatever pages are protected, an instruction does what it does with none, or leaves everything.
 pub fn rows_are_plain()

@@ -54,9 +54,9 @@ fn listing_of_operands(rt: HostRuntime) -> Result<(), Fail> {
     Ok(())
 }
 
-/// Codes of `main` alone, each with the rule that it breaks.
+/// Codes of `main` alone, each with the rule on operands and jumps that it breaks.
 #[test]
-fn rules_of_main(rt: HostRuntime) -> Result<(), Fail> {
+fn rules_of_places_in_main(rt: HostRuntime) -> Result<(), Fail> {
     let a = rt.alloc();
     assert_eq!(rt; is_valid(a, &[], 1)?, false, "it has an instruction");
     assert_eq!(rt;
@@ -104,6 +104,13 @@ fn rules_of_main(rt: HostRuntime) -> Result<(), Fail> {
         false,
         "one depth at each place"
     );
+    Ok(())
+}
+
+/// Codes of `main` alone, each with the rule on what an instruction names that it breaks.
+#[test]
+fn rules_of_names_in_main(rt: HostRuntime) -> Result<(), Fail> {
+    let a = rt.alloc();
     assert_eq!(rt;
         is_valid(a, &[Instr::LoadL(0), Instr::Ret], 1)?,
         false,
@@ -149,9 +156,9 @@ fn with_function(
     Ok(code.is_valid(alloc)?)
 }
 
-/// Codes with a function and with a table of checkpoints, each with the rule that it breaks.
+/// Codes with a function, each with the rule that it breaks.
 #[test]
-fn rules_of_functions_and_tables(rt: HostRuntime) -> Result<(), Fail> {
+fn rules_of_functions(rt: HostRuntime) -> Result<(), Fail> {
     let a = rt.alloc();
     let good = [
         Instr::Num(1),
@@ -181,11 +188,6 @@ fn rules_of_functions_and_tables(rt: HostRuntime) -> Result<(), Fail> {
         false,
         "no operands at a start"
     );
-    assert_eq!(rt;
-        with_function(a, &good, (3, 1, 1), &[(0, 1)])?,
-        false,
-        "no other entry"
-    );
     let across = [
         Instr::Num(1),
         Instr::JumpZ(3),
@@ -210,6 +212,25 @@ fn rules_of_functions_and_tables(rt: HostRuntime) -> Result<(), Fail> {
         with_function(a, &outside, (3, 0, 0), &[])?,
         false,
         "a directive stands in main"
+    );
+    Ok(())
+}
+
+/// Codes with a table of checkpoints, each with the rule that it breaks.
+#[test]
+fn rules_of_tables(rt: HostRuntime) -> Result<(), Fail> {
+    let a = rt.alloc();
+    let none = [
+        Instr::Num(1),
+        Instr::Call(0),
+        Instr::Ret,
+        Instr::LoadL(0),
+        Instr::Ret,
+    ];
+    assert_eq!(rt;
+        with_function(a, &none, (3, 1, 1), &[(0, 1)])?,
+        false,
+        "no other entry"
     );
     let saved = [
         Instr::Ckpt(5),

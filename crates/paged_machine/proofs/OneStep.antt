@@ -7,7 +7,7 @@ use Rattle.machine_code.specs.CodeView.{CodeView}
 use Rattle.machine_code.specs.State.{State}
 use Rattle.machine_code.specs.Row.{Done, row}
 use Rattle.machine_code.specs.Run.{World, world, row_at, next_row, Reaches}
-use Rattle.machine_code.specs.RunLaws.{reaches_row}
+use Rattle.machine_code.proofs.RunLaws.{reaches_row}
 
 -- the row of the instruction at the place is the next row
 pub is_next_row : (c : CodeView) (protected : ℕ → Bool) (s : State) (m : List ℕ) (i : Instr) → slice_get c.instrs s.place ≡ Some i → row c protected s m i ≡ next_row c protected s m

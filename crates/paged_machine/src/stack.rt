@@ -25,6 +25,7 @@ impl Model for Stack {
 }
 
 impl Stack {
+    /// No word, with room for so many.
     pub fn new(alloc: Global, room: usize) -> Result<Stack, AllocError>
         ensures { IfOk result (λ s. s ≡ record { items = []; room = room }) }
     {
@@ -34,6 +35,7 @@ impl Stack {
         })
     }
 
+    /// How many words there are.
     #[inline(always)]
     pub fn len(&self) -> usize
         ensures { result ≡ length self.now.items }
@@ -91,6 +93,7 @@ impl Model for Locals {
 }
 
 impl Locals {
+    /// No local, with room for so many.
     pub fn new(alloc: Global, room: usize) -> Result<Locals, AllocError>
         ensures { IfOk result (λ s. s ≡ record { items = []; room = room }) }
     {
@@ -100,6 +103,7 @@ impl Locals {
         })
     }
 
+    /// How many locals there are, those of all calls.
     #[inline(always)]
     pub fn len(&self) -> usize
         ensures { result ≡ length self.now.items }
@@ -107,6 +111,7 @@ impl Locals {
         self.top
     }
 
+    /// Local `i` of the call whose locals begin at `base`.
     #[inline(always)]
     pub fn get(&self, base: usize, i: u32) -> u64
         requires { base + i < length self.now.items }
@@ -115,6 +120,7 @@ impl Locals {
         self.words[base + i as usize]
     }
 
+    /// Stores into local `i` of the call whose locals begin at `base`.
     #[inline(always)]
     pub fn set(&mut self, base: usize, i: u32, v: u64)
         requires { base + i < length self.old.items }
@@ -123,6 +129,7 @@ impl Locals {
         self.words[base + i as usize] = v;
     }
 
+    /// Adds a local behind the others.
     #[inline(always)]
     pub fn push(&mut self, v: u64)
         requires { length self.old.items < self.old.room }
@@ -132,6 +139,7 @@ impl Locals {
         self.top += 1;
     }
 
+    /// Drops the locals from the `n`-th on.
     #[inline(always)]
     pub fn cut_to(&mut self, n: usize)
         requires { n ≤ length self.old.items }

@@ -146,9 +146,9 @@ fn traps_and_one_operand(rt: HostRuntime) -> Result<(), Fail> {
     Ok(())
 }
 
-/// Memory, pointers, jumps, calls and what the machine tells.
+/// Cells and pointers.
 #[test]
-fn the_other_instructions(rt: HostRuntime) -> Result<(), Fail> {
+fn memory(rt: HostRuntime) -> Result<(), Fail> {
     let a = rt.alloc();
     let stores = [
         Instr::Tick,
@@ -184,6 +184,13 @@ fn the_other_instructions(rt: HostRuntime) -> Result<(), Fail> {
         event_of(a, end.as_slice(), [].as_slice(), false)?,
         Some(Event::Trapped(4))
     );
+    Ok(())
+}
+
+/// Calls and jumps.
+#[test]
+fn calls_and_jumps(rt: HostRuntime) -> Result<(), Fail> {
+    let a = rt.alloc();
     let calls = [
         Instr::Num(30),
         Instr::Num(4),
@@ -218,6 +225,13 @@ fn the_other_instructions(rt: HostRuntime) -> Result<(), Fail> {
         event_of(a, jumps.as_slice(), [].as_slice(), false)?,
         Some(Event::Out(65))
     );
+    Ok(())
+}
+
+/// What the machine tells.
+#[test]
+fn what_is_told(rt: HostRuntime) -> Result<(), Fail> {
+    let a = rt.alloc();
     let numbers = [Instr::Num(8), Instr::Num(9), Instr::OutN(1), Instr::Ret];
     assert_eq!(rt;
         event_of(a, numbers.as_slice(), [].as_slice(), false)?,

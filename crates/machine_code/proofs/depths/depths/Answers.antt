@@ -1,9 +1,9 @@
-use Rattle.std.proofs.Common.{◌≡◌, ℕ, ◌+◌, ◌-◌, ◌<◌, ◌^◌, Some, length, subst, sym, ap, ◌∙◌, arith}
-use Rattle.std.specs.Prelude.{slice_get, slice_index}
+use Rattle.std.proofs.Common.{◌≡◌, ◌+◌, ◌-◌, length, subst, sym, ap, ◌∙◌, arith}
+use Rattle.std.specs.Prelude.{slice_index}
 use Rattle.std.proofs.lemmas.List.{with_items_is}
 use Rattle.machine_code.specs.CodeView.{CodeView}
 use Rattle.machine_code.specs.Needs.{needs, gives}
-use Rattle.machine_code.specs.Forced.{AreForced, Known}
+use Rattle.machine_code.specs.Forced.{Known}
 use Rattle.machine_code.proofs.Forced.{known_more, all_known, is_here}
 use Rattle.machine_code.proofs.depths.depths.Goals as goal
 

@@ -1,4 +1,4 @@
-use Rattle.machine_code.specs.RunLaws.{reaches_on, reaches_fed, reaches_row}
+use Rattle.machine_code.proofs.RunLaws.{reaches_on, reaches_fed, reaches_row}
 use Rattle.machine_code.proofs.laws.runs_go_on.Goals as goal
 
 pub returns : goal.returns

@@ -1,5 +1,4 @@
-use Rattle.std.proofs.Common.{◌≡◌, ◌<◌, ◌^◌, length, ap, sym, ◌∙◌, subst, arith, rules, true, false}
-use Rattle.std.specs.Prelude.{IsTrue}
+use Rattle.std.proofs.Common.{◌<◌, ◌^◌, length, ap, sym, ◌∙◌, subst, arith, rules}
 use Rattle.machine_code.specs.CodeView.{CodeView}
 use Rattle.machine_code.specs.Valid.{AreDistinct}
 use Rattle.machine_code.proofs.Forced.{forward_lt}

@@ -1,4 +1,4 @@
-use Rattle.std.proofs.Common.{◌≡◌, sym, ap, ◌∙◌}
+use Rattle.std.proofs.Common.{sym, ap, ◌∙◌}
 use Rattle.machine_code.specs.CodeView.{CodeView}
 use Rattle.machine_code.specs.Valid.{has_checkpoint}
 use Rattle.machine_code.proofs.Table.{passed, all_passed}

@@ -1,5 +1,5 @@
 -- Laws of runs.
-use Rattle.std.specs.Prelude.{◌≡◌, ◌≢◌, ℕ, ℤ, zero, suc, ◌+◌, ◌-◌, ◌≤◌, ◌<◌, ◌/◌, nat_lt, length, List, [], ◌∷◌, ◌++◌, Bool, true, false, cond, Option, Some, None, Result, Ok, Err, slice_get, slice_set, ◌⊎◌, refl}
+use Rattle.std.specs.Prelude.{◌≡◌, ℕ, ℤ, zero, suc, ◌+◌, ◌-◌, ◌≤◌, ◌/◌, nat_lt, length, List, [], ◌∷◌, ◌++◌, Bool, true, false, cond, Option, Some, None, Result, Ok, Err, slice_get, slice_set, ◌⊎◌, refl}
 use Rattle.std.proofs.lemmas.Bool.{cases_lt}
 use Rattle.std.proofs.Common.{sym, ap, ◌∙◌, subst, inl, inr, ⊎_elim, append-nil, arith}
 use Rattle.ckpt_base.specs.declared.trap.Trap.{Trap}
@@ -8,25 +8,16 @@ use Rattle.ckpt_base.specs.Trap.{trap_number}
 use Rattle.ckpt_base.specs.Run.{Run}
 use Rattle.ckpt_base.specs.Event as run
 use Rattle.machine_code.specs.declared.instr.Instr.{Instr}
-use Rattle.machine_code.specs.declared.instr.Instr.TheVariants.{Tick, Num, Addr, LoadC, StoreC, LoadL, StoreL, Move, Back, Fetch, Put, Add, Sub, Mul, Div, Rem, Shl, Shr, And, Or, Xor, Neg, Not, Inv, Test, Eq, Ne, Lt, Le, Gt, Ge, Jump, JumpZ, Call, Ret, Drop, OutC, OutB, OutN, In, Ckpt, Excl}
+use Rattle.machine_code.specs.declared.instr.Instr.TheVariants.{Tick, StoreC, Move, Back, Fetch, Put, Div, Rem, Shl, Shr, Call, Ret, OutC, OutB, OutN, In, Ckpt, Excl}
 use Rattle.machine_code.specs.declared.event.Event.{Event}
-use Rattle.machine_code.specs.declared.event.Event.TheVariants.{Ran, Ticked, WriteFault, Out, OutNumber, WantsInput, Checkpoint, Exclude, Ended, Trapped}
+use Rattle.machine_code.specs.declared.event.Event.TheVariants.{Ran, Ticked, WriteFault, WantsInput, Ended, Trapped}
 use Rattle.machine_code.specs.declared.event.Caller.{Caller}
 use Rattle.machine_code.specs.CodeView.{CodeView, Function}
 use Rattle.machine_code.specs.State.{State, top, given, spent}
 use Rattle.ckpt_base.specs.Pointer.{cell_of}
 use Rattle.machine_code.specs.Row.{Done, row, stored, put, ran, trapped, answered, fetched, called, entered, returned, told}
-use Rattle.machine_code.specs.Run.{World, unprotected, fed, after_row, after_instr, after_one, after, Reaches, row_at, next_row, run_at, StopsBy, Stops, CodeRun}
-
--- a row leaves everything
-pub record IsStill (d : Done) (s : State) (m : List ℕ) : Type 0 where
-  pub state : d.state ≡ s
-  pub memory : d.memory ≡ m
-  pub shown : d.shown ≡ []
-
--- the row over pages of which some are protected is the row over none, or it leaves everything
-abbrev pub IsPlainOrStill : CodeView → (ℕ → Bool) → State → List ℕ → Instr → Type 0
-IsPlainOrStill c protected s m i = (row c protected s m i ≡ row c unprotected s m i) ⊎ IsStill (row c protected s m i) s m
+use Rattle.machine_code.specs.Still.{IsStill, IsPlainOrStill}
+use Rattle.machine_code.specs.Run.{World, unprotected, fed, after_row, after_instr, after_one, after, Reaches, row_at, next_row, StopsBy, Stops, CodeRun}
 
 stored_plain : (protected : ℕ → Bool) (s : State) (m : List ℕ) (k cell v : ℕ) → (stored protected s m k cell v ≡ stored unprotected s m k cell v) ⊎ IsStill (stored protected s m k cell v) s m
 stored_plain protected s m k cell v = by_test (protected (cell / 512))
