@@ -108,7 +108,7 @@ module _ (gs : Graphs) where
 
 module _ (d : ℕ) where
   -- without ticks of its own
-  abbrev Same : Step → Step → Type 0
+  abbrev pub Same : Step → Step → Type 0
   Same (Over q) o = (o ≡ Over q) × (q.ending ≡ Going → ⊥)
   Same (On y t k) o = o ≡ On y t (k + d)
 
@@ -171,7 +171,7 @@ module _ (gs : Graphs) (x : Spot) where
   does_later to (work.Test e) s n = ticks_later (λ t j. given (value e t.variables) t (λ v. goes x.function x.frames (if word_holds v then to.0 else to.1) t j)) s n (λ d t j. given_same d (value e t.variables) t (λ v. goes x.function x.frames (if word_holds v then to.0 else to.1) t j) (λ v. goes x.function x.frames (if word_holds v then to.0 else to.1) t (j + d)) (λ v. goes_same d x.function x.frames (if word_holds v then to.0 else to.1) t j))
   does_later to work.End s n = inl (λ d. answers_same d x.frames _ s n)
 
-  node_later : (o : Option Edge) (w : Option NodeWork) (s : State) (n : ℕ) → Later s n (does_node gs x o w s)
+  pub node_later : (o : Option Edge) (w : Option NodeWork) (s : State) (n : ℕ) → Later s n (does_node gs x o w s)
   node_later None w s n = inl (λ d. (refl, λ e. absurd cc))
   node_later (Some to) None s n = inl (λ d. (refl, λ e. absurd cc))
   node_later (Some to) (Some w) s n = does_later to w s n
