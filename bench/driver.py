@@ -97,8 +97,8 @@ fn drive<L: Ledger>(
 fn job_code(alloc: Global) -> Result<Code, AllocError> {
     let instrs = Vec::from_slice(alloc, &program::CODE)?;
     let objects = vec![in alloc; (0, 65536), (65536, 65536)]?;
-    let checkpoints = vec![in alloc; (0, CHECKPOINT)]?;
-    Ok(Code::of(instrs, Vec::new(alloc), objects, checkpoints, 5))
+    let checkpoints = vec![in alloc; CHECKPOINT]?;
+    Ok(Code::of(instrs, Vec::new(alloc), objects, checkpoints, 16))
 }
 
 /// The ticks of the job, or None where the code is not valid.
@@ -213,7 +213,7 @@ def instruction(name, operand):
 
 
 def files(code):
-    checkpoint = [place + 1 for place, (name, _) in enumerate(code) if name == "Ckpt"][0]
+    checkpoint = ["(%d, %d)" % (node, place + 1) for place, (name, node) in enumerate(code) if name == "Ckpt"]
     job = "// The code of the job.\n\nuse machine_code::Instr;\n\npub static CODE: [Instr; %d] = [\n" % len(code)
     job += "".join(instruction(name, operand) for name, operand in code) + "];\n"
-    return {"src/main.rt": HEAD.replace("CHECKPOINT", str(checkpoint)), "src/program.rt": job, **PROOFS}
+    return {"src/main.rt": HEAD.replace("CHECKPOINT", ", ".join(checkpoint)), "src/program.rt": job, **PROOFS}

@@ -1,7 +1,7 @@
 #!/usr/bin/env python3
-"""Times the machine against a switch interpreter in C on the same code, and prints the ratio of their times.
+"""Compiles the large job of stencil.c, runs its code to the end on the machine and in a switch interpreter in C, and prints the ratio of their times.
 
-It copies the machine's crates into a folder of its own, writes a driver beside them that calls `Machine::step` in a plain loop, one tick a call as the
+The code is that of `ckpt compile`. It copies the machine's crates into a folder of its own, writes a driver beside them that calls `Machine::step` in a plain loop, one tick a call as the
 run of a program does, lets `rt run` prove and build it, builds the C interpreter with gcc -O2, and runs the two in turn. Usage: bench/machine.py [FOLDER]
 """
 
@@ -16,7 +16,6 @@ HERE = os.path.dirname(os.path.abspath(__file__))
 CRATES = os.path.join(HERE, "..", "crates")
 sys.path.insert(0, HERE)
 import driver
-import stencil
 
 LIBRARIES = {
     "ckpt_base": "thiserror",
@@ -36,6 +35,14 @@ def write(path, text):
     os.makedirs(os.path.dirname(path), exist_ok=True)
     with open(path, "w") as f:
         f.write(text)
+
+
+def compiled(source):
+    """The listing of a source as pairs of name and operand, in the names of the machine's sources."""
+    names = {n.upper(): n for n in NAMES}
+    text = subprocess.run([os.path.join(HERE, "..", "ckpt"), "compile", source], check=True, capture_output=True, text=True).stdout
+    words = [line.split(" ")[1:] for line in text.splitlines()]
+    return [(names[w[0]], int(w[1]) if len(w) > 1 else None) for w in words]
 
 
 def c_code(code):
@@ -71,7 +78,8 @@ def seconds(program):
 
 def main():
     folder = sys.argv[1] if len(sys.argv) > 1 else tempfile.mkdtemp(prefix="machine-bench-")
-    code = stencil.instructions()
+    code = compiled(os.path.join(HERE, "stencil.c"))
+    print("%d instructions" % len(code))
     programs = {"C, gcc -O2": build_c(folder, code), "machine": build_rattle(folder, code)}
     times = {name: [] for name in programs}
     for _ in range(7):
