@@ -7,9 +7,11 @@ use Rattle.ckpt_program.specs.declared.outcome.Counts.{Counts}
 use Rattle.ckpt_program.specs.declared.outcome.Outcome.{Outcome}
 use Rattle.ckpt_program.specs.declared.outcome.Outcome.TheVariants as outcome
 use Rattle.ckpt_program.specs.declared.outcome.Document.TheVariants as document
-use Rattle.ckpt_program.specs.Words.{Command, Plain, Check, command_of}
+use Rattle.ckpt_program.specs.Words.{Command, Plain, Check, Compile, Report, command_of}
+use Rattle.ckpt_program.specs.Listed.{IsListing}
+use Rattle.ckpt_program.specs.Report.{IsReport}
 use Rattle.ckpt_program.specs.Fetched.{Gives, Lacks, IsTooLong}
-use Rattle.ckpt_program.specs.Outcomes.{HasSource, IsCounted, Accepts, ComesAccepted, Evaluates, Carries, Comes}
+use Rattle.ckpt_program.specs.Outcomes.{HasSource, IsCounted, Accepts, Prints, ComesAccepted, Evaluates, Carries, Comes}
 
 -- ---- a shelf with the same files gives the same
 
@@ -34,6 +36,7 @@ accepted_before input until tree a b c (outcome.Finished r) same count comes =
     let whole = comes.0.1 in
     ((comes.0.0, (gives_same a b input _ same whole.0, whole.1), comes.0.2), comes.1 ∙ count)
 accepted_before input until tree a b c (outcome.Accepted n) same count comes = comes
+accepted_before input until tree a b c (outcome.Printed t) same count comes = comes
 accepted_before input until tree a b c outcome.Usage same count comes = comes
 accepted_before input until tree a b c (outcome.Refused r) same count comes = comes
 
@@ -42,6 +45,9 @@ evaluated source input until tree a b c o has same count comes = inr (tree, has,
 
 pub counted : (source : List ℕ) (held tree : Resolved) (old new : ShelfView) (c : Counts) → held ≡ tree → HasSource old source tree → new.faults ≡ old.faults → IsCounted held c → Accepts source old new (outcome.Accepted c)
 counted source held tree old new c same has kept is = ((tree, has, subst (λ (t : Resolved). IsCounted t c) same is), kept)
+
+pub printed : (IsText : Resolved → List ℕ → Type 0) (source : List ℕ) (held tree : Resolved) (old new : ShelfView) (text : List ℕ) → held ≡ tree → HasSource old source tree → new.faults ≡ old.faults → IsText held text → Prints IsText source old new (outcome.Printed text)
+printed IsText source held tree old new text same has kept is = ((tree, has, subst (λ (t : Resolved). IsText t text) same is), kept)
 
 -- ---- a command
 
@@ -56,6 +62,7 @@ plain_comes words source input until old new o is comes = subst (λ (command : C
     carried source input until old new (outcome.TooLarge d) comes = comes
     carried source input until old new (outcome.Accepted n) comes = comes
     carried source input until old new (outcome.Finished r) comes = comes
+    carried source input until old new (outcome.Printed t) comes = comes
 
 pub check_comes : (words : List (List ℕ)) (source : List ℕ) (old new : ShelfView) (o : Outcome) → Check source ≡ command_of words → Accepts source old new o → Comes words old new o
 check_comes words source old new o is comes = subst (λ (command : Command). Carries command old new o) is (carried source old new o comes)
@@ -68,3 +75,30 @@ check_comes words source old new o is comes = subst (λ (command : Command). Car
     carried source old new (outcome.TooLarge d) comes = comes
     carried source old new (outcome.Accepted n) comes = comes
     carried source old new (outcome.Finished r) comes = comes
+    carried source old new (outcome.Printed t) comes = comes
+
+pub compile_comes : (words : List (List ℕ)) (source : List ℕ) (old new : ShelfView) (o : Outcome) → Compile source ≡ command_of words → Prints IsListing source old new o → Comes words old new o
+compile_comes words source old new o is comes = subst (λ (command : Command). Carries command old new o) is (carried source old new o comes)
+  where
+    carried : (source : List ℕ) (old new : ShelfView) (o : Outcome) → Prints IsListing source old new o → Carries (Compile source) old new o
+    carried source old new outcome.Usage comes = absurd comes
+    carried source old new outcome.NoMemory comes = tt
+    carried source old new (outcome.Refused r) comes = comes
+    carried source old new outcome.ShelfFault comes = comes
+    carried source old new (outcome.TooLarge d) comes = comes
+    carried source old new (outcome.Accepted n) comes = comes
+    carried source old new (outcome.Finished r) comes = comes
+    carried source old new (outcome.Printed t) comes = comes
+
+pub report_comes : (words : List (List ℕ)) (source : List ℕ) (old new : ShelfView) (o : Outcome) → Report source ≡ command_of words → Prints IsReport source old new o → Comes words old new o
+report_comes words source old new o is comes = subst (λ (command : Command). Carries command old new o) is (carried source old new o comes)
+  where
+    carried : (source : List ℕ) (old new : ShelfView) (o : Outcome) → Prints IsReport source old new o → Carries (Report source) old new o
+    carried source old new outcome.Usage comes = absurd comes
+    carried source old new outcome.NoMemory comes = tt
+    carried source old new (outcome.Refused r) comes = comes
+    carried source old new outcome.ShelfFault comes = comes
+    carried source old new (outcome.TooLarge d) comes = comes
+    carried source old new (outcome.Accepted n) comes = comes
+    carried source old new (outcome.Finished r) comes = comes
+    carried source old new (outcome.Printed t) comes = comes

@@ -1,3 +1,7 @@
 mod Carrying
 mod Choices
 mod Prefix
+mod RunTexts
+mod AlikeGraphs
+mod MainGraphs
+mod Fitted

@@ -8,6 +8,10 @@ pub mod Fetched
 pub mod Texts
 -- the faults that refusals tell
 pub mod Reasons
+-- what `report` prints
+pub mod Report
+-- what `compile` prints
+pub mod Listed
 -- when each outcome comes
 pub mod Outcomes
 -- what the console takes

@@ -12,8 +12,10 @@ use Rattle.c_tree.specs.Meaning.{meaning}
 use Rattle.c_reader.specs.ReadFaults.{IsReadFault}
 use Rattle.c_types.specs.Check.{checked}
 use Rattle.c_meaning.specs.Plain.{IsPlain}
-use Rattle.ckpt_program.specs.Words.{Command, Plain, Check, Unknown, command_of}
+use Rattle.ckpt_program.specs.Words.{Command, Plain, Check, Compile, Report, Unknown, command_of}
 use Rattle.ckpt_program.specs.Fetched.{Lacks, IsWhole, IsTooLong}
+use Rattle.ckpt_program.specs.Listed.{IsListing}
+use Rattle.ckpt_program.specs.Report.{IsReport}
 use Rattle.ckpt_program.specs.Reasons.{Reason, Text, Rule, reason}
 use Rattle.ckpt_program.specs.declared.outcome.Counts.{Counts}
 use Rattle.ckpt_program.specs.declared.outcome.Outcome.{Outcome}
@@ -83,6 +85,11 @@ abbrev pub Accepts : (source : List ℕ) → ShelfView → ShelfView → Outcome
 Accepts source old new (outcome.Accepted c) = ((tree : Resolved) × HasSource old source tree × IsCounted tree c) × (new.faults ≡ old.faults)
 Accepts source old new o = FailsSource source old new o
 
+-- what printing a text of a source comes to: one that is so for its tree
+abbrev pub Prints : (Resolved → List ℕ → Type 0) → (source : List ℕ) → ShelfView → ShelfView → Outcome → Type 0
+Prints IsText source old new (outcome.Printed t) = ((tree : Resolved) × HasSource old source tree × IsText tree t) × (new.faults ≡ old.faults)
+Prints IsText source old new o = FailsSource source old new o
+
 -- what comes after the source was accepted, where at most so many steps are asked for
 abbrev pub ComesAccepted : (input : List ℕ) (until : ℕ) → Resolved → ShelfView → ShelfView → Outcome → Type 0
 ComesAccepted input until tree old new outcome.ShelfFault = Rose old.faults new.faults ⊎ Lacks old input
@@ -105,6 +112,10 @@ Carries (Plain source input until) old new outcome.Usage = ⊥
 Carries (Plain source input until) old new o = Evaluates source input until old new o
 Carries (Check source) old new outcome.Usage = ⊥
 Carries (Check source) old new o = Accepts source old new o
+Carries (Compile source) old new outcome.Usage = ⊥
+Carries (Compile source) old new o = Prints IsListing source old new o
+Carries (Report source) old new outcome.Usage = ⊥
+Carries (Report source) old new o = Prints IsReport source old new o
 
 -- what the words come to
 abbrev pub Comes : List (List ℕ) → ShelfView → ShelfView → Outcome → Type 0

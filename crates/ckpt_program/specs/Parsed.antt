@@ -6,4 +6,6 @@ use Rattle.ckpt_program.specs.Words as spec
 abbrev pub parsed : Command → spec.Command
 parsed (command.Plain s i n) = spec.Plain s.now i.now n
 parsed (command.Check s) = spec.Check s.now
+parsed (command.Compile s) = spec.Compile s.now
+parsed (command.Report s) = spec.Report s.now
 parsed command.Unknown = spec.Unknown

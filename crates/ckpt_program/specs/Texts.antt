@@ -52,15 +52,21 @@ last_line (outcome.TooLarge d) = too_large_line d
 last_line outcome.NoMemory = codes "no memory"
 last_line (outcome.Accepted c) = counts_line c
 last_line (outcome.Finished r) = ending_line r.ending r.ticks
+last_line (outcome.Printed t) = []
 
 -- what stands before the last line: the output of a run, and a newline
 abbrev pub before_line : Outcome → List ℕ
 before_line (outcome.Finished r) = r.output.list ++ 10 ∷ []
 before_line _ = []
 
+-- the text of an outcome that ends with a line of its own
+abbrev pub lines_of : Outcome → List ℕ
+lines_of o = before_line o ++ last_line o ++ 10 ∷ []
+
 -- the whole text
 abbrev pub text_of : Outcome → List ℕ
-text_of o = before_line o ++ last_line o ++ 10 ∷ []
+text_of (outcome.Printed t) = t
+text_of o = lines_of o
 
 -- 0 where a run ended, 3 where it trapped, 4 where it stopped at its bound
 abbrev pub ending_status : Ending → ℕ
@@ -71,14 +77,16 @@ ending_status Going = 4
 abbrev pub status_of : Outcome → ℕ
 status_of (outcome.Accepted c) = 0
 status_of (outcome.Finished r) = ending_status r.ending
+status_of (outcome.Printed t) = 0
 status_of outcome.Usage = 1
 status_of (outcome.Refused r) = 2
 status_of outcome.ShelfFault = 6
 status_of (outcome.TooLarge d) = 11
 status_of outcome.NoMemory = 12
 
--- the status where the console did not take the whole text: 7 for that of a run or of an accepted program, and else as it is
+-- the status where the console did not take the whole text: 7 where the command was carried out, and else as it is
 abbrev pub broken_status : Outcome → ℕ
 broken_status (outcome.Accepted c) = 7
 broken_status (outcome.Finished r) = 7
+broken_status (outcome.Printed t) = 7
 broken_status o = status_of o

@@ -7,6 +7,10 @@ pub data Command : Type 0 where
   Plain : (source input : List ℕ) → (until : ℕ) → Command
   -- accepts or refuses a source
   Check : (source : List ℕ) → Command
+  -- prints the code of a source
+  Compile : (source : List ℕ) → Command
+  -- prints the excluded sets of a source
+  Report : (source : List ℕ) → Command
   Unknown : Command
 
 -- ---- numbers
@@ -55,14 +59,16 @@ abbrev pub plain_of : List (List ℕ) → Command
 plain_of (source ∷ input ∷ options) = if is_option source || is_option input then Unknown else bounded source input (until_of options)
 plain_of _ = Unknown
 
--- `check SRC`
-abbrev pub check_of : List (List ℕ) → Command
-check_of (source ∷ []) = if is_option source then Unknown else Check source
-check_of _ = Unknown
+-- `check SRC`, or another command of one source
+abbrev pub of_source : (List ℕ → Command) → List (List ℕ) → Command
+of_source command (source ∷ []) = if is_option source then Unknown else command source
+of_source command _ = Unknown
 
 -- the command that the words are
 abbrev pub command_of : List (List ℕ) → Command
 command_of [] = Unknown
 command_of (name ∷ words) =
     if bytes_eq name (codes "plain") then plain_of words
-    else (if bytes_eq name (codes "check") then check_of words else Unknown)
+    else (if bytes_eq name (codes "check") then of_source Check words
+    else (if bytes_eq name (codes "compile") then of_source Compile words
+    else (if bytes_eq name (codes "report") then of_source Report words else Unknown)))

@@ -7,11 +7,22 @@
 #[cfg(test)]
 mod check_rows;
 mod console;
+#[cfg(test)]
+mod graph_tests;
+mod graphs;
 mod intake;
+mod listing;
+#[cfg(test)]
+mod machine_run;
+#[cfg(test)]
+mod machine_tests;
 mod outcome;
 #[cfg(test)]
 mod plain_rows;
 mod refusal;
+mod report;
+#[cfg(test)]
+mod report_rows;
 #[cfg(test)]
 mod tests;
 mod top;

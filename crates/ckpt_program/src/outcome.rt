@@ -3,7 +3,7 @@ ghost use Rattle.ckpt_program.specs.Texts as spec;
 
 use crate::refusal::Refusal;
 use c_meaning::PlainRun;
-use ckpt_base::Ending;
+use ckpt_base::{Ending, Text};
 use std::alloc::{AllocError, Global};
 
 /// A file that a command reads.
@@ -41,9 +41,11 @@ pub enum Outcome {
     Accepted(Counts),
     /// The program ran.
     Finished(PlainRun),
+    /// There is a text to print.
+    Printed(Text),
 }
 
-/// The status where the console did not take the text of a run or of an accepted program.
+/// The status where the console did not take the text of a command that was carried out.
 const CONSOLE_FAULT: u8 = 7;
 
 impl Outcome {
@@ -52,7 +54,7 @@ impl Outcome {
         ensures answer { result ≡ spec.status_of self.now }
     {
         match self {
-            Outcome::Accepted(_) => 0,
+            Outcome::Accepted(_) | Outcome::Printed(_) => 0,
             Outcome::Finished(run) => ending_status(&run.ending),
             Outcome::Usage => 1,
             Outcome::Refused(_) => 2,
@@ -67,7 +69,7 @@ impl Outcome {
         ensures answer { result ≡ spec.broken_status self.now }
     {
         match self {
-            Outcome::Accepted(_) | Outcome::Finished(_) => CONSOLE_FAULT,
+            Outcome::Accepted(_) | Outcome::Finished(_) | Outcome::Printed(_) => CONSOLE_FAULT,
             other => other.status(),
         }
     }
@@ -75,6 +77,16 @@ impl Outcome {
     /// The text that the console is to take.
     pub fn text(&self, alloc: Global) -> Result<Vec<u8>, AllocError>
         ensures answer { IfOk result (λ t. t.items ≡ spec.text_of self.now) }
+    {
+        match self {
+            Outcome::Printed(text) => Vec::from_slice(alloc, text.as_bytes()),
+            _ => self.lines(alloc),
+        }
+    }
+
+    // The text of an outcome that ends with a line of its own.
+    fn lines(&self, alloc: Global) -> Result<Vec<u8>, AllocError>
+        ensures answer { IfOk result (λ t. t.items ≡ spec.lines_of self.now) }
     {
         let mut text = Vec::new(alloc);
         if let Outcome::Finished(run) = self {
@@ -100,6 +112,7 @@ impl Outcome {
             Outcome::NoMemory => Vec::from_slice(alloc, b"no memory"),
             Outcome::Accepted(counts) => counts_line(alloc, *counts),
             Outcome::Finished(run) => ending_line(alloc, &run.ending, run.ticks),
+            Outcome::Printed(_) => Ok(Vec::new(alloc)),
         }
     }
 }

@@ -2,6 +2,7 @@ use crate::check_rows::{ACCEPTED, DIRECTIVES, NAMES, SCAN, SYNTAX, TYPES};
 use crate::plain_rows::{
     BOUNDED, BYTES, FUNCTIONS, LOOPS, NUMBERS, ORDER, READING, Row, TRAPS, WHOLE_PROGRAMS,
 };
+use crate::report_rows::{LISTINGS, REPORTS};
 use crate::top::ckpt;
 use ckpt_base::{Bytes, MemShelf, MemSink, Text};
 use std::alloc::Global;
@@ -25,6 +26,10 @@ struct Case<'a> {
 const PLAIN: [&str; 3] = ["plain", "source", "input"];
 
 const CHECK: [&str; 2] = ["check", "source"];
+
+const REPORT: [&str; 2] = ["report", "source"];
+
+const COMPILE: [&str; 2] = ["compile", "source"];
 
 const HI: &[u8] = b"int main(void){ putchar(72); putchar(105); return 0; }";
 
@@ -128,6 +133,18 @@ fn check_accepts_and_refuses(rt: HostRuntime) -> Result<(), Fail> {
     all_hold(&rt, alloc, &CHECK, &DIRECTIVES)
 }
 
+#[test]
+fn report_names_the_excluded_cells(rt: HostRuntime) -> Result<(), Fail> {
+    let alloc = rt.alloc();
+    all_hold(&rt, alloc, &REPORT, &REPORTS)
+}
+
+#[test]
+fn compile_lists_the_code(rt: HostRuntime) -> Result<(), Fail> {
+    let alloc = rt.alloc();
+    all_hold(&rt, alloc, &COMPILE, &LISTINGS)
+}
+
 /// A text with a part of it so many times in its middle.
 fn around(
     alloc: Global,
@@ -220,10 +237,12 @@ const USAGE: &[u8] =
 #[test]
 fn other_words_are_usage(rt: HostRuntime) -> Result<(), Fail> {
     let alloc = rt.alloc();
-    let table: [&[&str]; 10] = [
+    let table: [&[&str]; 12] = [
         &[],
         &[""],
         &["check"],
+        &["compile", "--source"],
+        &["report", "source", "input"],
         &["check", "source", "input"],
         &["plain", "source"],
         &["plain", "source", "input", "more"],
@@ -266,7 +285,10 @@ fn each_call_of_the_outside_may_fail(rt: HostRuntime) -> Result<(), Fail> {
         alloc,
         &case_of(&["plain", "source", "nothing"], HI, 6, missing),
     )?;
-    holds(&rt, alloc, &case_of(&["check", "nothing"], HI, 6, missing))?;
+    for command in ["check", "compile", "report"] {
+        let words = [command, "nothing"];
+        holds(&rt, alloc, &case_of(&words, HI, 6, missing))?;
+    }
     // The source is opened and read twice, the second time to its end; then the input is opened and read to its end.
     for call in 1..7 {
         let case = Case {

@@ -3,14 +3,18 @@ ghost use Rattle.ckpt_base.specs.Shelf.{ShelfView, SameShelf};
 ghost use Rattle.ckpt_program.specs.declared.outcome.Outcome.{Outcome};
 ghost use Rattle.ckpt_program.specs.declared.outcome.Outcome.TheVariants as outcome;
 ghost use Rattle.c_types.specs.Check.{checked};
-ghost use Rattle.ckpt_program.specs.Outcomes.{IsAccepted, FailsText, HasSource, FailsSource, IsCounted, Accepts, ComesAccepted, Evaluates, Comes, FailsProgram};
+ghost use Rattle.ckpt_program.specs.Outcomes.{IsAccepted, FailsText, HasSource, FailsSource, IsCounted, Accepts, Prints, ComesAccepted, Evaluates, Comes, FailsProgram};
+ghost use Rattle.ckpt_program.specs.Listed.{IsListing};
+ghost use Rattle.ckpt_program.specs.Report.{IsReport};
 ghost use Rattle.ckpt_program.specs.Texts.{text_of};
 ghost use Rattle.ckpt_program.specs.Told.{Tells};
 
 use crate::console::write_all;
 use crate::intake::{FetchFault, fetch};
+use crate::listing::listing_of;
 use crate::outcome::{Counts, Document, Outcome};
 use crate::refusal::Refusal;
+use crate::report::report_of;
 use crate::words::{Command, parse};
 use c_meaning::plain;
 use c_reader::{ReadFault, read};
@@ -29,7 +33,7 @@ const INPUT_BYTES: usize = 16_777_216;
 /// Does all that the program does: carries out the command that the words are, over the files of the shelf, and tells the
 /// outcome on the console, which is written once, when it is over. Answers the status with which the program ends.
 ///
-/// 0, 3 and 4 come by the ending of the run, and 0 for an accepted source; 1 exactly where the words are no command; 2 exactly where the source is refused; 6
+/// 0, 3 and 4 come by the ending of the run, and 0 for an accepted source, for its code and for its excluded sets; 1 exactly where the words are no command; 2 exactly where the source is refused; 6
 /// only where the shelf failed or lacks a file; 7 only where the console failed while the text of 0, 3 or 4 was written; 11 exactly
 /// where a file is longer than its limit; 12 where no memory is found.
 pub fn ckpt<H: Shelf, K: Sink>(
@@ -67,6 +71,8 @@ fn come_to<H: Shelf>(alloc: Global, words: &[Text], shelf: &mut H) -> Outcome
             until,
         } => evaluate(alloc, shelf, source, input, until),
         Command::Check { source } => count(alloc, shelf, source),
+        Command::Compile { source } => list_code(alloc, shelf, source),
+        Command::Report { source } => report_sets(alloc, shelf, source),
         Command::Unknown => Outcome::Usage,
     }
 }
@@ -78,6 +84,34 @@ fn count<H: Shelf>(alloc: Global, shelf: &mut H, source: &Text) -> Outcome
 {
     match accept(alloc, shelf, source) {
         Ok(program) => Outcome::Accepted(counts_of(program.get())),
+        Err(outcome) => outcome,
+    }
+}
+
+// Prints the code of a source.
+fn list_code<H: Shelf>(alloc: Global, shelf: &mut H, source: &Text) -> Outcome
+    ensures answer { Prints IsListing source.now (H.view shelf.old) (H.view shelf.new) result }
+    ensures same { SameShelf (H.view shelf.old) (H.view shelf.new) }
+{
+    match accept(alloc, shelf, source) {
+        Ok(program) => match listing_of(alloc, program.get()) {
+            Ok(listing) => Outcome::Printed(listing),
+            Err(NoMemory) => Outcome::NoMemory,
+        },
+        Err(outcome) => outcome,
+    }
+}
+
+// Prints the excluded sets of a source.
+fn report_sets<H: Shelf>(alloc: Global, shelf: &mut H, source: &Text) -> Outcome
+    ensures answer { Prints IsReport source.now (H.view shelf.old) (H.view shelf.new) result }
+    ensures same { SameShelf (H.view shelf.old) (H.view shelf.new) }
+{
+    match accept(alloc, shelf, source) {
+        Ok(program) => match report_of(alloc, program.get()) {
+            Ok(report) => Outcome::Printed(report),
+            Err(NoMemory) => Outcome::NoMemory,
+        },
         Err(outcome) => outcome,
     }
 }
@@ -125,7 +159,7 @@ fn accept<H: Shelf>(alloc: Global, shelf: &mut H, source: &Text) -> Result<Boxed
 }
 
 // Reads and checks a text.
-fn accept_text(alloc: Global, text: &[u8]) -> Result<Boxed<Checked>, Outcome>
+pub fn accept_text(alloc: Global, text: &[u8]) -> Result<Boxed<Checked>, Outcome>
     requires short { length text.now ≤ 262144 }
     ensures answer { IfOk result (λ tree. IsAccepted text.now tree) }
     ensures err { IfErr result (λ o. FailsText text.now o) }

@@ -17,6 +17,14 @@ pub enum Command<'a> {
     Check {
         source: &'a Text,
     },
+    /// `compile SRC`: prints the code of the source.
+    Compile {
+        source: &'a Text,
+    },
+    /// `report SRC`: prints the excluded sets of the source.
+    Report {
+        source: &'a Text,
+    },
     /// The words are no command.
     Unknown,
 }
@@ -32,6 +40,10 @@ pub fn parse(words: &[Text]) -> Command<'_>
                 parse_plain(words)
             } else if name.as_bytes() == b"check".as_slice() {
                 parse_check(words)
+            } else if name.as_bytes() == b"compile".as_slice() {
+                parse_compile(words)
+            } else if name.as_bytes() == b"report".as_slice() {
+                parse_report(words)
             } else {
                 Command::Unknown
             }
@@ -58,10 +70,28 @@ fn parse_plain(words: &[Text]) -> Command<'_>
 }
 
 fn parse_check(words: &[Text]) -> Command<'_>
-    ensures answer { parsed result ≡ spec.check_of words.now }
+    ensures answer { parsed result ≡ spec.of_source spec.Check words.now }
 {
     match words {
         [source] if !is_option(source) => Command::Check { source },
+        _ => Command::Unknown,
+    }
+}
+
+fn parse_compile(words: &[Text]) -> Command<'_>
+    ensures answer { parsed result ≡ spec.of_source spec.Compile words.now }
+{
+    match words {
+        [source] if !is_option(source) => Command::Compile { source },
+        _ => Command::Unknown,
+    }
+}
+
+fn parse_report(words: &[Text]) -> Command<'_>
+    ensures answer { parsed result ≡ spec.of_source spec.Report words.now }
+{
+    match words {
+        [source] if !is_option(source) => Command::Report { source },
         _ => Command::Unknown,
     }
 }
