@@ -80,6 +80,7 @@ fn does_alike(
     input: &[u8],
     until: u64,
 ) -> Result<(), Fail> {
+    assert!(rt; source.len() <= 262_144);
     match accept_text(alloc, source) {
         Err(_) => panic!(rt; "the source is not accepted"),
         Ok(program) => runs_alike(rt, alloc, program.get(), input, until),
