@@ -158,7 +158,7 @@ fn accept<H: Shelf>(alloc: Global, shelf: &mut H, source: &Text) -> Result<Boxed
     }
 }
 
-// Reads and checks a text.
+/// Reads and checks a text of at most 262,144 bytes: the program, or what a command comes to that is given no such one.
 pub fn accept_text(alloc: Global, text: &[u8]) -> Result<Boxed<Checked>, Outcome>
     requires short { length text.now ≤ 262144 }
     ensures answer { IfOk result (λ tree. IsAccepted text.now tree) }
