@@ -1,5 +1,5 @@
 -- What declarations of the file make has its cells, and starts as it may.
-use Rattle.std.proofs.Common.{◌≡◌, ℕ, max, true, refl, arith}
+use Rattle.std.proofs.Common.{◌≡◌, ℕ, ◌≤◌, max, true, refl, arith}
 use Rattle.std.specs.Prelude.{nat_le}
 use Rattle.std.proofs.lemmas.Bool.Decides.{nat_tests}
 use Rattle.c_tree.specs.declared.tree.ObjectForm.{ObjectForm}
