@@ -6,3 +6,5 @@ pub mod RunLaws
 pub mod BitLaws
 -- rows of bits
 pub mod RowLaws
+-- bits of a word that are as its lowest bit is
+pub mod BitRuns

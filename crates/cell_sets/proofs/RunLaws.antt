@@ -201,14 +201,13 @@ some_run (r ∷ rs) low high h ne =
     let n : in_run r r.first ≡ true = grind (arith, nat_tests) in
     (r.first, (λ i. n i || in_runs rs r.first))
 
--- a run behind the runs so far, or none, where a row has its cell or not
-pub cell_more : (row out : ℕ → Bool) (new : ℕ → Bool) (c : ℕ) → ((q : ℕ) → q < c → out q ≡ row q) → out c ≡ false → ((q : ℕ) → new q ≡ (out q || (row c && (leb c q && ltb q (c + 1))))) → (q : ℕ) → q < c + 1 → new q ≡ row q
-cell_more row out new c so_far none made q l =
-    elim (cases_lt q c) [
-      | inl below ↦ made q ∙ ap (λ w. out q || (row c && w)) (window_below c (c + 1) q below) ∙ ap (λ w. out q || w) (and_false (row c)) ∙ or_false (out q) ∙ so_far q below
-      | inr above ↦
-          let e : q ≡ c = omega arith in
-          made q ∙ ap (λ w. out q || (row c && w)) (window_in c (c + 1) q above l) ∙ (λ i. out (e i) || (row c && true)) ∙ ap (λ w. w || (row c && true)) none ∙ and_true (row c) ∙ ap row (sym e)
+-- a run behind the runs so far, or none, where a row has all cells of a stretch or none
+pub row_stretch : (row out new : ℕ → Bool) (from next : ℕ) (inside : Bool) → ((q : ℕ) → q < from → out q ≡ row q) → ((q : ℕ) → from ≤ q → out q ≡ false) →
+    ((q : ℕ) → from ≤ q → q < next → row q ≡ inside) → ((q : ℕ) → new q ≡ (out q || (inside && (leb from q && ltb q next)))) → (q : ℕ) → q < next → new q ≡ row q
+row_stretch row out new from next inside so_far none same made q l =
+    elim (cases_lt q from) [
+      | inl below ↦ made q ∙ ap (λ w. out q || (inside && w)) (window_below from next q below) ∙ ap (λ w. out q || w) (and_false inside) ∙ or_false (out q) ∙ so_far q below
+      | inr above ↦ made q ∙ ap (λ w. out q || (inside && w)) (window_in from next q above l) ∙ ap (λ w. w || (inside && true)) (none q above) ∙ and_true inside ∙ sym (same q above l)
     ]
 
 -- the runs of all numbers below the universe are the runs of the set

@@ -4,7 +4,7 @@ ghost use Rattle.cell_sets.specs.Runs.{in_runs, IsRising};
 
 use crate::cell_set::CellSet;
 use crate::runs::Run;
-use crate::words::{bit, minus_words, or_words, same_words, set_bit};
+use crate::words::{bit, minus_words, or_words, same_count, same_words, set_bit};
 use ckpt_base::NoMemory;
 use std::alloc::Global;
 use std::marker::Model;
@@ -105,6 +105,17 @@ impl BitRow {
         ensures answer { result ≡ has self.now b }
     {
         bit(&self.words, b)
+    }
+
+    // Whether the row has `from`, and a later number before which that stays the same: where it changes, or where the next word begins.
+    pub(crate) fn stretch(&self, from: u32) -> (bool, u32)
+        requires below { from < universe_of self.now }
+        ensures further { from < result.1 }
+        ensures within { result.1 ≤ universe_of self.now }
+        ensures same { (q : ℕ) → from ≤ q → q < result.1 → has self.now q ≡ result.0 }
+    {
+        let count = same_count(&self.words, from).min(self.width - from);
+        (self.get(from), from + count)
     }
 
     /// Adds the numbers of the other row, and tells whether any was new.

@@ -153,8 +153,11 @@ fn row_runs(alloc: Global, row: &BitRow) -> Result<Vec<Run>, AllocError>
     ensures same { IfOk result (λ v. (q : ℕ) → in_runs v.items q ≡ has row.now q) }
 {
     let mut runs = Vec::new(alloc);
-    'cells: for c in 0..row.width() {
-        append_if(&mut runs, row.get(c), c, c + 1)?;
+    let mut position = 0;
+    'stretches: while position < row.width() {
+        let (inside, next) = row.stretch(position);
+        append_if(&mut runs, inside, position, next)?;
+        position = next;
     }
     Ok(runs)
 }

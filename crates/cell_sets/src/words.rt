@@ -1,4 +1,5 @@
-ghost use Rattle.std.specs.Prelude.{◌≡◌, ℕ, ◌*◌, ◌<◌, ◌↔◌, length, IsTrue, ◌&&◌, ◌||◌, not, true, false};
+ghost use Rattle.std.specs.Prelude.{◌≡◌, ℕ, ◌+◌, ◌*◌, ◌<◌, ◌≤◌, ◌↔◌, length, IsTrue, ◌&&◌, ◌||◌, not, true, false};
+ghost use Rattle.std.specs.Int.{bit_at};
 ghost use Rattle.cell_sets.specs.Bits.{bit_of};
 
 pub(crate) fn bit(words: &[u64], b: u32) -> bool
@@ -6,6 +7,28 @@ pub(crate) fn bit(words: &[u64], b: u32) -> bool
     ensures { result ≡ bit_of words.now b }
 {
     (words[(b / 64) as usize] >> (b % 64)) & 1 == 1
+}
+
+// How many bits of the word, from the lowest on, are as the lowest is.
+fn as_lowest(word: u64) -> u32
+    ensures some { 0 < result }
+    ensures same { (k : ℕ) → k < result → k < 64 → bit_at word k ≡ bit_at word 0 }
+{
+    if word & 1 == 1 {
+        word.trailing_ones()
+    } else {
+        word.trailing_zeros()
+    }
+}
+
+// How many bits from bit `b` on, to the end of its word at most, are as that bit is.
+pub(crate) fn same_count(words: &[u64], b: u32) -> u32
+    requires { b < 64 * length words.now }
+    ensures some { 0 < result }
+    ensures same { (q : ℕ) → b ≤ q → q < b + result → bit_of words.now q ≡ bit_of words.now b }
+{
+    let place = b % 64;
+    as_lowest(words[(b / 64) as usize] >> place).min(64 - place)
 }
 
 pub(crate) fn set_bit(words: &mut [u64], b: u32)

@@ -1,4 +1,4 @@
-use Rattle.std.proofs.Common.{◌≡◌, ℕ, ◌<◌, ◌^◌, get_or, arith, refl}
+use Rattle.std.proofs.Common.{arith, refl}
 use Rattle.std.proofs.lemmas.Bool.{false≢true}
 use Rattle.cell_sets.proofs.BitLaws.{word_from_bits, bits_from_words}
 use Rattle.cell_sets.proofs.words.same_words.Goals as goal

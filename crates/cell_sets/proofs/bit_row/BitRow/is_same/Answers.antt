@@ -1,4 +1,4 @@
-use Rattle.std.proofs.Common.{◌≡◌, ℕ, sym, ap, ◌∙◌, length}
+use Rattle.std.proofs.Common.{ℕ, sym, ap, ◌∙◌, length}
 use Rattle.cell_sets.specs.Bits.{bit_of}
 use Rattle.cell_sets.proofs.RowLaws.{same_words, has_seen_row}
 use Rattle.cell_sets.proofs.bit_row.BitRow.is_same.Goals as goal
