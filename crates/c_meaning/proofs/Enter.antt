@@ -164,57 +164,32 @@ update_lent : (o : Option (Bor RAssign)) (x : Option RAssign) → MatchOption o 
 update_lent None x h = ap perhaps h
 update_lent (Some y) x h = ap perhaps h
 
+-- a loop with a test alone
+abbrev plain : Bor RExpr → Bor RStmt → Loop
+plain x b = record { test = Some x; update = None; body = b }
+
 module _ (e : Evaluator) (s : RStmt) where
-  pub while_ticks : (x : RExpr) (b b' : RStmt) → b ≡ b' → s ≡ stmt.While x b' → (m n : ℕ) (r : Run) → From ((piece (calls e) s).does m) e n r
-      → Ticks (λ k w. chooses (test_value (Some x)) ((piece (calls e) b).does k (loop_ways (perhaps None (loop (test_value (Some x)) ((piece (calls e) b).does k) (perhaps None) w)) w)) w.next) e n r
-  while_ticks x b b' bs is m n r y =
-      let k = m + 1 in
-      let to = λ (w : Ways). chooses (test_value (Some x)) ((piece (calls e) b).does k (loop_ways (perhaps None (loop (test_value (Some x)) ((piece (calls e) b).does k) (perhaps None) w)) w)) w.next in (
-        k,
-        moved e e _ (λ w. tick (to w)) (λ ms. ms) n r refl (λ ms s' n.
-            ap (λ (q : Piece). q.does m (ways_on e ms) s' n) (ap (piece (calls e)) (is ∙ ap (stmt.While x) (sym bs)) ∙ piece_while (calls e) x b)
-            ∙ unrolls (test_value (Some x)) ((piece (calls e) b).does k) None (piece_steady (calls e) (calls_steady e.progress.functions.now e.progress.allowed) b k) (ways_on e ms) s' n) y,
-      )
+  pub while_ticks : (l : Loop) (x : Bor RExpr) (b : Bor RStmt) (b' : RStmt) → l ≡ plain x b → b.now ≡ b' → s ≡ stmt.While x.now b' → (m n : ℕ) (r : Run) → From ((piece (calls e) s).does m) e n r
+      → Ticks (turning (calls e) l.test l.update l.body.now) e n r
+  while_ticks l x b b' ls bs is m n r = loop_ticks e l.test l.update l.body.now _ (m + 1) n r (λ w.
+      ap (λ (q : Piece). q.does m w) (ap (piece (calls e)) (is ∙ ap (stmt.While x.now) (sym bs)) ∙ piece_while (calls e) x.now b.now)
+      ∙ ap (λ (l : Loop). looping (calls e) l (m + 1) w) (sym ls))
 
-  module _ (o : Option (Bor RExpr)) (ou : Option (Bor RAssign)) (x : Option RExpr) (u : Option RAssign) (b b' : RStmt) (hx : MatchOption o (x ≡ None) (λ y. x ≡ Some y.now)) (hu : MatchOption ou (u ≡ None) (λ y. u ≡ Some y.now)) (bs : b ≡ b') where
-    for_is : (i : Option RInit) (m : ℕ) (w : Ways) → s ≡ stmt.For i x u b'
-        → (piece (calls e) s).does m w ≡ begins i (loop (test_of o) ((piece (calls e) b).does (m + init_count i + 1 + assign_count u)) (update_of ou) w)
-    for_is i m w is =
-        ap (λ (q : Piece). q.does m w) (ap (piece (calls e)) (is ∙ ap (stmt.For i x u) (sym bs)) ∙ piece_for (calls e) i x u b)
-        ∙ ap (λ (v : Value). begins i (loop v ((piece (calls e) b).does (m + init_count i + 1 + assign_count u)) (perhaps u) w)) (test_lent o x hx)
-        ∙ ap (λ (f : Then → Then). begins i (loop (test_of o) ((piece (calls e) b).does (m + init_count i + 1 + assign_count u)) f w)) (update_lent ou u hu)
+  -- a `do` begins with its body
+  pub do_begins : (l : Loop) (x : Bor RExpr) (b : Bor RStmt) (b' : RStmt) → l ≡ plain x b → b.now ≡ b' → s ≡ stmt.Do b' x.now → (m n : ℕ) (r : Run) → From ((piece (calls e) s).does m) e n r
+      → From (λ w. (piece (calls e) l.body.now).does m (turn_ways (calls e) l m w)) e n r
+  do_begins l x b b' ls bs is m n r = moved e e _ (λ w. (piece (calls e) l.body.now).does m (turn_ways (calls e) l m w)) (λ ms. ms) n r refl (λ ms s' n. ap (λ (f : Then). f s' n) (
+      ap (λ (q : Piece). q.does m (ways_on e ms)) (ap (piece (calls e)) (is ∙ ap (λ (z : RStmt). stmt.Do z x.now) (sym bs)) ∙ piece_do (calls e) b.now x.now)
+      ∙ ap (λ (l : Loop). (piece (calls e) l.body.now).does m (turn_ways (calls e) l m (ways_on e ms))) (sym ls)))
 
-    pub for_ticks : (i : Option RInit) → i ≡ None → s ≡ stmt.For i x u b' → (m n : ℕ) (r : Run) → From ((piece (calls e) s).does m) e n r → Ticks (turning (calls e) o ou b) e n r
-    for_ticks i none is m n r = loop_ticks e o ou b _ (m + init_count None + 1 + assign_count u) n r (λ w. for_is None m w (is ∙ ap (λ (j : Option RInit). stmt.For j x u b') none))
-
-    pub first_ticks : (i : Option RInit) (a : RInit) (y : Single) (e' : Evaluator) (l : Loop) → ((m : ℕ) → action y m ≡ begin a) → l.test ≡ o → l.update ≡ ou → l.body.now ≡ b → i ≡ Some a → s ≡ stmt.For i x u b' → e'.progress ≡ e.progress → todo e' ≡ item.Turn l ∷ todo e
-        → (m n : ℕ) (r : Run) → From ((piece (calls e) s).does m) e n r → Ticks (λ k w. acts (action y k) w.next) e' n r
-    first_ticks i a y e' l act lt lu lb some is same t m n r z =
-        let k = m + init_count (Some a) + 1 + assign_count u in (
-          m,
-          moved e e' _ (λ w. tick (acts (action y m) w.next)) (λ ms. k ∷ ms) n r same (λ ms s' n.
-              ap (λ (f : Then). f s' n) (for_is (Some a) m (ways_on e ms) (is ∙ ap (λ (j : Option RInit). stmt.For j x u b') some)
-              ∙ ap (λ (f : Then). single (begin a) f)
-              (ap (λ (z : Option (Bor RExpr)). loop (test_of z) ((piece (calls e) b).does k) (update_of ou) (ways_on e ms)) (sym lt)
-              ∙ ap (λ (z : Option (Bor RAssign)). loop (test_of l.test) ((piece (calls e) b).does k) (update_of z) (ways_on e ms)) (sym lu)
-              ∙ ap (λ (z : RStmt). loop (test_of l.test) ((piece (calls e) z).does k) (update_of l.update) (ways_on e ms)) (sym lb))
-              ∙ ap (λ (act : Action). single act (looping (calls e) l k (ways_on e ms))) (sym (act m)))
-              ∙ ap (λ (w : Ways). tick (acts (action y m) w.next) s' n) (sym (added e e' (item.Turn l) same t k ms))) z,
-        )
-
-  pub do_stands : (x : RExpr) (b : RStmt) (c : Bor RStmt) (l : Loop) (e1 e2 : Evaluator) → c.now ≡ b → l.body.now ≡ b → test_of l.test ≡ test_value (Some x) → update_of l.update ≡ perhaps None → s ≡ stmt.Do b x
-      → e1.progress ≡ e.progress → todo e1 ≡ item.Again l ∷ todo e → e2.progress ≡ e1.progress → todo e2 ≡ item.One c ∷ todo e1
-      → (m n : ℕ) (r : Run) → From ((piece (calls e) s).does m) e n r → Stands e2 n r
-  do_stands x b c l e1 e2 cs ls xs us is same1 t1 same2 t2 m n r y = moved e e2 _ (λ w. w.next) (λ ms. m ∷ (m ∷ ms)) n r (same2 ∙ same1) (λ ms s' n.
-      ap (λ (f : Then). f s' n) (
-      ap (λ (q : Piece). q.does m (ways_on e ms)) (ap (piece (calls e)) is ∙ piece_do (calls e) b x)
-      ∙ ap (λ (v : Value). (piece (calls e) b).does m (loop_ways (loop v ((piece (calls e) b).does m) (perhaps None) (ways_on e ms)) (ways_on e ms))) (sym xs)
-      ∙ ap (λ (f : Then → Then). (piece (calls e) b).does m (loop_ways (f (loop (test_of l.test) ((piece (calls e) b).does m) f (ways_on e ms))) (ways_on e ms))) (sym us)
-      ∙ ap (λ (z : RStmt). (piece (calls e) b).does m (loop_ways (update_of l.update (loop (test_of l.test) ((piece (calls e) z).does m) (update_of l.update) (ways_on e ms))) (ways_on e ms))) (sym ls)
-      ∙ ap (λ (z : RStmt). (piece (calls e) z).does m (turn_ways (calls e) l m (ways_on e ms))) (sym cs)
-      ∙ ap (λ (w : Ways). (piece (calls e) c.now).does m w) (sym (added e e1 (item.Again l) same1 t1 m ms))
-      ∙ ap (λ (p : Progress). (piece (calls (record e { progress = p })) c.now).does m (ways_on e1 (m ∷ ms))) (sym same1)
-      ∙ ap (λ (w : Ways). w.next) (sym (added e1 e2 (item.One c) same2 t2 m (m ∷ ms))))) y
+  -- a `for` is its first statement before its loop
+  module _ (o : Option (Bor RExpr)) (ou : Option (Bor RAssign)) (b : Bor RStmt) (x : Option RExpr) (u : Option RAssign) (b' : RStmt) (hx : MatchOption o (x ≡ None) (λ y. x ≡ Some y.now)) (hu : MatchOption ou (u ≡ None) (λ y. u ≡ Some y.now)) (bs : b.now ≡ b') where
+    pub for_begins : (i : Option RInit) → s ≡ stmt.For i x u b' → (m n : ℕ) (r : Run) → From ((piece (calls e) s).does m) e n r
+        → From (λ w. begins i (looping (calls e) (record { test = o; update = ou; body = b }) (m + init_count i + 1 + assign_count u) w)) e n r
+    for_begins i is m n r = moved e e _ (λ w. begins i (looping (calls e) (record { test = o; update = ou; body = b }) (m + init_count i + 1 + assign_count u) w)) (λ ms. ms) n r refl (λ ms s' n. ap (λ (f : Then). f s' n) (
+        ap (λ (q : Piece). q.does m (ways_on e ms)) (ap (piece (calls e)) (is ∙ ap (stmt.For i x u) (sym bs)) ∙ piece_for (calls e) i x u b.now)
+        ∙ ap (λ (v : Value). begins i (loop v ((piece (calls e) b.now).does (m + init_count i + 1 + assign_count u)) (perhaps u) (ways_on e ms))) (test_lent o x hx)
+        ∙ ap (λ (f : Then → Then). begins i (loop (test_of o) ((piece (calls e) b.now).does (m + init_count i + 1 + assign_count u)) f (ways_on e ms))) (update_lent ou u hu)))
 
   -- a block is its statements
   pub block_stands : (ss : List RStmt) (b : Bor (List RStmt)) (e' : Evaluator) → s ≡ stmt.Block ss → b.now ≡ ss → e'.progress ≡ e.progress → todo e' ≡ item.Rest b ∷ todo e
@@ -250,6 +225,32 @@ module _ (e : Evaluator) (arms : List RArm) (last : Option RStmt) where
       ap (λ (z : List RArm). tests (map (arm_piece (calls e)) z) (last_piece (calls e) last) m (ways_on e ms)) as'
       ∙ ap (λ (z : Option RStmt). tests [] (last_piece (calls e) z) m (ways_on e ms)) (ls ∙ ap Some (sym bs))
       ∙ ap (λ (w : Ways). w.next) (sym (added e e' (item.One b) same t m ms))))
+
+-- ---- the parts of loops
+
+module _ (e : Evaluator) (l : Loop) where
+  -- a loop without a first statement comes to its test
+  pub test_comes : (i : Option RInit) → i ≡ None → (m n : ℕ) (r : Run) → From (λ w. begins i (looping (calls e) l m w)) e n r → Ticks (turning (calls e) l.test l.update l.body.now) e n r
+  test_comes i none m n r = loop_ticks e l.test l.update l.body.now _ m n r (λ w. ap (λ (j : Option RInit). begins j (looping (calls e) l m w)) none)
+
+  -- the first statement, before its loop
+  pub first_comes : (e' : Evaluator) (i : Option RInit) (a : RInit) (y : Single) → i ≡ Some a → ((m : ℕ) → action y m ≡ begin a) → e'.progress ≡ e.progress → todo e' ≡ item.Turn l ∷ todo e
+      → (m n : ℕ) (r : Run) → From (λ w. begins i (looping (calls e) l m w)) e n r → Ticks (λ k w. acts (action y k) w.next) e' n r
+  first_comes e' i a y some act same t m n r x = (
+    m,
+    moved e e' _ (λ w. tick (acts (action y m) w.next)) (λ ms. m ∷ ms) n r same (λ ms s n.
+        ap (λ (j : Option RInit). begins j (looping (calls e) l m (ways_on e ms)) s n) some
+        ∙ ap (λ (act : Action). single act (looping (calls e) l m (ways_on e ms)) s n) (sym (act m))
+        ∙ ap (λ (w : Ways). tick (acts (action y m) w.next) s n) (sym (added e e' (item.Turn l) same t m ms))) x,
+  )
+
+  -- the body, before the next turn
+  pub body_stands : (e1 e2 : Evaluator) → e1.progress ≡ e.progress → todo e1 ≡ item.Again l ∷ todo e → e2.progress ≡ e1.progress → todo e2 ≡ item.One l.body ∷ todo e1
+      → (m n : ℕ) (r : Run) → From (λ w. (piece (calls e) l.body.now).does m (turn_ways (calls e) l m w)) e n r → Stands e2 n r
+  body_stands e1 e2 same1 t1 same2 t2 m n r = moved e e2 (λ w. (piece (calls e) l.body.now).does m (turn_ways (calls e) l m w)) (λ w. w.next) (λ ms. m ∷ (m ∷ ms)) n r (same2 ∙ same1) (λ ms s n. ap (λ (f : Then). f s n) (
+      ap (λ (w : Ways). (piece (calls e) l.body.now).does m w) (sym (added e e1 (item.Again l) same1 t1 m ms))
+      ∙ ap (λ (p : Progress). (piece (calls (record e { progress = p })) l.body.now).does m (ways_on e1 (m ∷ ms))) (sym same1)
+      ∙ ap (λ (w : Ways). w.next) (sym (added e1 e2 (item.One l.body) same2 t2 m (m ∷ ms)))))
 
 -- ---- loops that are left
 
@@ -307,8 +308,8 @@ size_continue = ap size (sym stmt.rolls-Continue) ∙ fold-roll-RStmt ℕ ℕ si
 pub block_lighter : (s : RStmt) (ss : List RStmt) (b : Bor (List RStmt)) (is js : List Item) → s ≡ stmt.Block ss → b.now ≡ ss → js ≡ item.Rest b ∷ is → weights js < weights is + size s
 block_lighter s ss b is js e bs t = omega (arith, ap weights t, ap size e, size_block ss, ap (λ (v : List RStmt). total (map size v)) bs)
 
-pub do_lighter : (s b : RStmt) (x : RExpr) (c : Bor RStmt) (l : Loop) (is js ks : List Item) → s ≡ stmt.Do b x → c.now ≡ b → js ≡ item.Again l ∷ is → ks ≡ item.One c ∷ js → weights ks < weights is + size s
-do_lighter s b x c l is js ks e bs t u = omega (arith, ap weights t, ap weights u, ap size e, size_do b x, ap size bs)
+pub do_lighter : (s b' : RStmt) (x : Bor RExpr) (b : Bor RStmt) (l : Loop) (is js : List Item) → s ≡ stmt.Do b' x.now → l ≡ plain x b → b.now ≡ b' → weights js ≡ weights is + size l.body.now + 3 → weights js < weights is + size s
+do_lighter s b' x b l is js e ls bs h = omega (arith, h, ap size e, size_do b' x.now, ap size bs, ap (λ (l : Loop). size l.body.now) ls)
 
 pub empty_lighter : (s : RStmt) (is : List Item) → s ≡ stmt.Empty → weights is < weights is + size s
 empty_lighter s is e = omega (arith, ap size e, size_empty)

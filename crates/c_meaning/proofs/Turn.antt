@@ -98,15 +98,11 @@ module _ (e e' : Evaluator) (a : RArm) (more : Bor (List RArm)) (last : Bor (Opt
       moved_at e e' chosen (λ w. w.next) (λ ms. k ∷ ms) n r same (λ ms es.
       chosen_is false t (ways_on e ms) es ∙ ap (λ (w : Ways). w.next (state e.progress es) n) (sym (added e e' (item.Tests more last) same u k ms)))
 
-pub turn_holds : (e e1 e2 : Evaluator) (l : Loop) (v : ℕ) → Ok v ≡ test_of l.test (variables e.progress.memory) → word_holds v ≡ true
-    → e1.progress ≡ e.progress → todo e1 ≡ item.Again l ∷ todo e → e2.progress ≡ e1.progress → todo e2 ≡ item.One l.body ∷ todo e1
-    → (m n : ℕ) (r : Run) → From (turning (calls e) l.test l.update l.body.now m) e n r → Stands e2 n r
-turn_holds e e1 e2 l v h t same1 t1 same2 t2 m n r = moved_at e e2 (turning (calls e) l.test l.update l.body.now m) (λ w. w.next) (λ ms. m ∷ (m ∷ ms)) n r (same2 ∙ same1) (λ ms es.
-    chooses_is (test_of l.test) ((piece (calls e) l.body.now).does m (turn_ways (calls e) l m (ways_on e ms))) (ways_on e ms).next (state e.progress es) n v true h t
-    ∙ ap (λ (f : Then). f (state e.progress es) n) (
-    ap (λ (w : Ways). (piece (calls e) l.body.now).does m w) (sym (added e e1 (item.Again l) same1 t1 m ms))
-    ∙ ap (λ (p : Progress). (piece (calls (record e { progress = p })) l.body.now).does m (ways_on e1 (m ∷ ms))) (sym same1)
-    ∙ ap (λ (w : Ways). w.next) (sym (added e1 e2 (item.One l.body) same2 t2 m (m ∷ ms)))))
+-- a loop whose test holds begins its body
+pub turn_holds : (e : Evaluator) (l : Loop) (v : ℕ) → Ok v ≡ test_of l.test (variables e.progress.memory) → word_holds v ≡ true
+    → (m n : ℕ) (r : Run) → From (turning (calls e) l.test l.update l.body.now m) e n r → From (λ w. (piece (calls e) l.body.now).does m (turn_ways (calls e) l m w)) e n r
+turn_holds e l v h t m n r = moved_at e e (turning (calls e) l.test l.update l.body.now m) (λ w. (piece (calls e) l.body.now).does m (turn_ways (calls e) l m w)) (λ ms. ms) n r refl (λ ms es.
+    chooses_is (test_of l.test) ((piece (calls e) l.body.now).does m (turn_ways (calls e) l m (ways_on e ms))) (ways_on e ms).next (state e.progress es) n v true h t)
 
 -- ---- ends
 

@@ -1,6 +1,6 @@
 ghost use Rattle.std.specs.Prelude.{◌≡◌, ◌∷◌, [], ◌≤◌, ◌<◌, ◌+◌, ◌-◌, ℕ, IfOk, MatchOption, map, None, Some};
 ghost use Rattle.c_tree.specs.State as spec;
-ghost use Rattle.c_tree.specs.Meaning.{piece, acts, tests, meaning};
+ghost use Rattle.c_tree.specs.Meaning.{piece, acts, begins, tests, meaning};
 ghost use Rattle.ckpt_base.specs.declared.ending.Ending.TheVariants.{Ended};
 ghost use Rattle.ckpt_base.specs.Word.{signed};
 ghost use Rattle.ckpt_base.specs.Run.{Run};
@@ -9,13 +9,13 @@ ghost use Rattle.c_meaning.specs.declared.evaluator.Evaluator.{Evaluator};
 ghost use Rattle.c_meaning.specs.declared.work.Item.TheVariants as Item;
 ghost use Rattle.c_meaning.specs.declared.work.Task.TheVariants as Task;
 ghost use Rattle.c_meaning.specs.Plain.{IsPlain};
-ghost use Rattle.c_meaning.specs.Working.{todo, calls, arm_piece, last_piece, action, does_task, makes, called_progress, restored, end_item, From, Taken, Answered, Stands, Reached, Comes, Settled, Acted, Counted, Skipped, Passes, IsNoCall, Ends, weight, weights, last_weight, size, Lighter, Nearer};
+ghost use Rattle.c_meaning.specs.Working.{todo, calls, looping, turn_ways, arm_piece, last_piece, action, does_task, makes, called_progress, restored, end_item, From, Taken, Answered, Stands, Reached, ComesTo, Comes, Settled, Acted, Counted, Skipped, Passes, IsNoCall, Ends, weight, weights, last_weight, size, Lighter, Nearer};
 
 use crate::memory::{fill, first_memory};
 use crate::progress::Progress;
 use crate::value::{test_value, value, values};
 use crate::work::{End, Frame, Item, Loop, Next, Single, Task, Waits};
-use c_tree::{Exprs, RArm, RInit, RPlace, RStmt, Resolved};
+use c_tree::{Exprs, RArm, RExpr, RInit, RPlace, RStmt, Resolved};
 use ckpt_base::{Ending, NoMemory, Trap, word};
 use sqlite_items::{Boxed, Items};
 use std::alloc::Global;
@@ -123,19 +123,9 @@ impl<'a> Evaluator<'a> {
                 let task = self.enter_arms(arms.as_slice(), last)?;
                 Ok(task)
             }
-            RStmt::While(test, body) => Ok(Some(Task::Turn(Loop {
-                test: Some(test),
-                update: None,
-                body: body.get(),
-            }))),
+            RStmt::While(test, body) => Ok(Some(Task::Turn(plain_loop(test, body.get())))),
             RStmt::Do(body, test) => {
-                let body = body.get();
-                self.add(Item::Again(Loop {
-                    test: Some(test),
-                    update: None,
-                    body,
-                }))?;
-                self.add(Item::One(body))?;
+                self.enter_body(plain_loop(test, body.get()))?;
                 Ok(None)
             }
             RStmt::For(init, test, update, body) => {
@@ -144,13 +134,8 @@ impl<'a> Evaluator<'a> {
                     update: lent(update),
                     body: body.get(),
                 };
-                match init {
-                    None => Ok(Some(Task::Turn(turn))),
-                    Some(init) => {
-                        self.add(Item::Turn(turn))?;
-                        Ok(Some(Task::Single(first_of(init))))
-                    }
-                }
+                let task = self.enter_for(init, turn)?;
+                Ok(Some(task))
             }
             RStmt::Block(stmts) => {
                 self.add(Item::Rest(stmts.as_slice()))?;
@@ -188,6 +173,33 @@ impl<'a> Evaluator<'a> {
                 }
             },
         }
+    }
+
+    /// Begins a `for`: answers its first statement, or its test where it has none.
+    #[inline(always)]
+    fn enter_for(&mut self, init: &'a Option<RInit>, turn: Loop<'a>) -> Result<Task<'a>, NoMemory>
+        ensures comes { IfOk result (λ t. (m n : ℕ) (r : Run) → From (λ w. begins init.now (looping (calls self.old) turn.entry m w)) self.old n r → ComesTo t self.new n r) }
+        ensures same { IfOk result (λ _. self.new.progress ≡ self.old.progress) }
+    {
+        match init {
+            None => Ok(Task::Turn(turn)),
+            Some(init) => {
+                self.add(Item::Turn(turn))?;
+                Ok(Task::Single(first_of(init)))
+            }
+        }
+    }
+
+    /// Begins the body of a loop, behind which its next turn comes.
+    #[inline(always)]
+    fn enter_body(&mut self, turn: Loop<'a>) -> Result<(), NoMemory>
+        ensures begun { IfOk result (λ _. (m n : ℕ) (r : Run) → From (λ w. (piece (calls self.old) turn.entry.body.now).does m (turn_ways (calls self.old) turn.entry m w)) self.old n r → Stands self.new n r) }
+        ensures same { IfOk result (λ _. self.new.progress ≡ self.old.progress) }
+        ensures heavier { IfOk result (λ _. weights (todo self.new) ≡ weights (todo self.old) + size turn.entry.body.now + 3) }
+    {
+        self.add(Item::Again(turn))?;
+        self.add(Item::One(turn.body))?;
+        Ok(())
     }
 
     /// Takes away what is left of the turn of the innermost loop, and what ends the turn: the loop, or outside a loop the call.
@@ -401,8 +413,7 @@ impl<'a> Evaluator<'a> {
                 if !word::holds(a) {
                     return Ok(None);
                 }
-                self.add(Item::Again(turn))?;
-                self.add(Item::One(turn.body))?;
+                self.enter_body(turn)?;
                 Ok(None)
             }
         }
@@ -592,6 +603,18 @@ fn ended(value: u64) -> Ending
     ensures answer { result ≡ Ended (signed value) }
 {
     Ending::Ended(word::signed(value))
+}
+
+/// A loop that has a test, and nothing between its turns.
+#[inline(always)]
+fn plain_loop<'a>(test: &'a RExpr, body: &'a RStmt) -> Loop<'a>
+    ensures answer { result ≡ record { test = Some test.entry; update = None; body = body.entry } }
+{
+    Loop {
+        test: Some(test),
+        update: None,
+        body,
+    }
 }
 
 /// Lends what there is.

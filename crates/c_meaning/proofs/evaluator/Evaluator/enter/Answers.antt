@@ -1,5 +1,4 @@
-use Rattle.std.proofs.Common.{refl}
-use Rattle.c_meaning.proofs.Enter.{declare_ticks, set_ticks, put_ticks, print_ticks, input_ticks, exclude_ticks, call_ticks, return_call_ticks, return_ticks, while_ticks, for_ticks, first_ticks, do_stands, block_stands, if_is}
+use Rattle.c_meaning.proofs.Enter.{declare_ticks, set_ticks, put_ticks, print_ticks, input_ticks, exclude_ticks, call_ticks, return_call_ticks, return_ticks, while_ticks, do_begins, for_begins, block_stands, if_is}
 use Rattle.c_meaning.proofs.evaluator.Evaluator.enter.Goals as goal
 
 pub returns-in-Declare-clause-reached : goal.returns-in-Declare-clause-reached
@@ -18,25 +17,19 @@ pub returns-in_ok-task-in-If-clause-reached : goal.returns-in_ok-task-in-If-clau
 returns-in_ok-task-in-If-clause-reached c m n r x = c.in_ok-task-in-If.ensures.reached m n r (if_is c.args.self.now c.args.stmt.now c.in-If.arms c.in-If.last c.in-If.is c.as_slice.result.now c.as_slice.ensures m n r x)
 
 pub returns-in-While-clause-reached : goal.returns-in-While-clause-reached
-returns-in-While-clause-reached c = while_ticks c.args.self.now c.args.stmt.now c.in-While.test c.get.result.now c.in-While.body c.get.ensures c.in-While.is
+returns-in-While-clause-reached c = while_ticks c.args.self.now c.args.stmt.now c.plain_loop.result _ _ c.in-While.body c.plain_loop.ensures.answer c.get.ensures c.in-While.is
 
-pub returns-in_ok-add-in-Do-2-clause-reached : goal.returns-in_ok-add-in-Do-2-clause-reached
-returns-in_ok-add-in-Do-2-clause-reached c =
-    do_stands c.args.self.now c.args.stmt.now c.in-Do.test c.in-Do.body c.get-body.result _ c.add.new.self c.add-in-Do.new.self c.get-body.ensures c.get-body.ensures refl refl c.in-Do.is
-    c.add.ensures.same c.in_ok-add-in-Do.ensures.added c.add-in-Do.ensures.same c.in_ok-add-in-Do-2.ensures.added
+pub returns-in_ok-enter_body-in-Do-clause-reached : goal.returns-in_ok-enter_body-in-Do-clause-reached
+returns-in_ok-enter_body-in-Do-clause-reached c m n r x =
+    c.in_ok-enter_body-in-Do.ensures.begun m n r (do_begins c.args.self.now c.args.stmt.now c.plain_loop-in-Do.result _ _ c.in-Do.body c.plain_loop-in-Do.ensures.answer c.get-in-Do.ensures c.in-Do.is m n r x)
 
-pub returns-in-None-clause-reached : goal.returns-in-None-clause-reached
-returns-in-None-clause-reached c =
-    for_ticks c.args.self.now c.args.stmt.now c.lent.result c.lent-in-For.result c.in-For.test c.in-For.update c.get-in-For.result.now c.in-For.body c.lent.ensures.answer c.lent-in-For.ensures.answer c.get-in-For.ensures
-    c.in-For.init c.in-None.is c.in-For.is
-
-pub returns-in_ok-add-in-Some-clause-reached : goal.returns-in_ok-add-in-Some-clause-reached
-returns-in_ok-add-in-Some-clause-reached c =
-    first_ticks c.args.self.now c.args.stmt.now c.lent.result c.lent-in-For.result c.in-For.test c.in-For.update c.get-in-For.result.now c.in-For.body c.lent.ensures.answer c.lent-in-For.ensures.answer c.get-in-For.ensures
-    c.in-For.init c.in-Some.init c.first_of.result c.add-in-Some.new.self _ c.first_of.ensures.answer refl refl refl c.in-Some.is c.in-For.is c.add-in-Some.ensures.same c.in_ok-add-in-Some.ensures.added
+pub returns-in_ok-task-in-For-clause-reached : goal.returns-in_ok-task-in-For-clause-reached
+returns-in_ok-task-in-For-clause-reached c m n r x =
+    c.in_ok-task-in-For.ensures.comes _ n r
+    (for_begins c.args.self.now c.args.stmt.now c.lent.result c.lent-in-For.result c.get-in-For.result c.in-For.test c.in-For.update c.in-For.body c.lent.ensures.answer c.lent-in-For.ensures.answer c.get-in-For.ensures c.in-For.init c.in-For.is m n r x)
 
 pub returns-in_ok-add-in-Block-clause-reached : goal.returns-in_ok-add-in-Block-clause-reached
-returns-in_ok-add-in-Block-clause-reached c = block_stands c.args.self.now c.args.stmt.now c.in-Block.stmts c.as_slice-in-Block.result c.add-in-Block.new.self c.in-Block.is c.as_slice-in-Block.ensures c.add-in-Block.ensures.same c.in_ok-add-in-Block.ensures.added
+returns-in_ok-add-in-Block-clause-reached c = block_stands c.args.self.now c.args.stmt.now c.in-Block.stmts c.as_slice-in-Block.result c.add.new.self c.in-Block.is c.as_slice-in-Block.ensures c.add.ensures.same c.in_ok-add-in-Block.ensures.added
 
 pub returns-in-Call-clause-reached : goal.returns-in-Call-clause-reached
 returns-in-Call-clause-reached c = call_ticks c.args.self.now c.args.stmt.now c.in-Call.place c.in-Call.function c.in-Call.args c.in-Call.is
