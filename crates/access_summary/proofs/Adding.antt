@@ -1,8 +1,8 @@
 -- Sets that grow, one effect after the other.
-use Rattle.std.proofs.Common.{◌≡◌, ℕ, ◌+◌, ◌<◌, ◌≤◌, ◌⊎◌, ◌↔◌, true, List, length, Contains, Some, slice_get, get_or, sym, ap, subst, ◌∙◌, arith, inl, inr}
+use Rattle.std.proofs.Common.{◌≡◌, ℕ, ◌+◌, ◌<◌, ◌≤◌, ◌⊎◌, ◌↔◌, List, length, Contains, Some, slice_get, get_or, sym, ap, subst, ◌∙◌, arith, inl, inr}
 use Rattle.std.proofs.lemmas.Bool.{cases_eq}
 use Rattle.std.proofs.lemmas.Option.{slice_get-get_or, get_or_from_slice_get, slice_get_within}
-use Rattle.cell_sets.specs.Sets.{Cells, universe_of, has}
+use Rattle.cell_sets.specs.Sets.{Cells}
 use Rattle.c_tree.specs.declared.resolved.Resolved.{Resolved}
 use Rattle.alias_sets.specs.declared.flows.PointerVar.{PointerVar}
 use Rattle.alias_sets.specs.declared.flows.Source.{Source}

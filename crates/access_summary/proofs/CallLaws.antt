@@ -1,9 +1,8 @@
 -- The calls of a program are the edges of its graph of calls.
-use Rattle.std.proofs.Common.{◌≡◌, ℕ, ◌+◌, ◌<◌, ◌≤◌, ◌⊎◌, true, List, [], ◌∷◌, length, Option, Some, None, slice_get, get_or, refl, sym, ap, subst, ◌∙◌, arith, inl, inr}
+use Rattle.std.proofs.Common.{◌≡◌, ℕ, ◌+◌, ◌<◌, ◌≤◌, ◌⊎◌, List, [], length, Some, slice_get, get_or, refl, sym, ap, ◌∙◌, arith, inl, inr}
 use Rattle.std.proofs.lemmas.Bool.{cases_eq, cases_lt, false≢true}
 use Rattle.std.proofs.lemmas.List.{get_or_past}
 use Rattle.std.proofs.lemmas.Option.{slice_get_within, none-some}
-use Rattle.path_laws.specs.Reaching.{joins}
 use Rattle.access_summary.specs.declared.effects.Effect.{Effect}
 use Rattle.access_summary.specs.declared.effects.Effect.TheVariants as effect
 use Rattle.access_summary.specs.Summaries.{body_of, Calls}

@@ -1,12 +1,10 @@
 -- The small program keeps the rules.
 use Rattle.std.proofs.Common.{◌≡◌, ℕ, List, [], true, false, Bool, Option, refl, sym, ap, ◌∙◌, arith}
 use Rattle.std.proofs.lemmas.Bool.{and_from}
-use Rattle.c_tree.specs.declared.resolved.RExpr.{RExpr}
 use Rattle.c_tree.specs.declared.resolved.RExpr.TheVariants as expr
 use Rattle.c_tree.specs.declared.resolved.RExpr.TheOpen.{RExpr-F}
 use Rattle.c_tree.specs.declared.resolved.RExpr.TheFolds.{fold-RExpr, fold-roll-RExpr}
 use Rattle.c_tree.specs.declared.resolved.RPlace.TheVariants as place
-use Rattle.c_tree.specs.declared.resolved.RStmt.{RStmt}
 use Rattle.c_tree.specs.declared.resolved.RStmt.TheVariants as stmt
 use Rattle.c_tree.specs.declared.resolved.RStmt.TheOpen.{RStmt-F, RArm-F}
 use Rattle.c_tree.specs.declared.resolved.RStmt.TheFolds.{fold-RStmt, fold-roll-RStmt}

@@ -1,7 +1,7 @@
 -- Effects that are appended one after the other.
 use Rattle.std.proofs.Common.{◌≡◌, ℕ, List, [], ◌∷◌, ◌++◌, Option, refl, sym, ap, ◌∙◌, append_assoc}
 use Rattle.c_tree.specs.declared.resolved.Direction.{Direction}
-use Rattle.c_tree.specs.declared.resolved.Direction.TheVariants.{Forward, Back}
+use Rattle.c_tree.specs.declared.resolved.Direction.TheVariants.{Forward}
 use Rattle.c_tree.specs.declared.resolved.RExpr.{RExpr}
 use Rattle.c_tree.specs.declared.resolved.RExpr.TheVariants as expr
 use Rattle.c_tree.specs.declared.resolved.RExpr.TheOpen.{RExpr-F}

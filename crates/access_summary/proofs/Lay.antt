@@ -149,21 +149,29 @@ block_more first to old items i m next now s k e now' b lt h ks l =
           ∙ ap (λ v. edges_all v (m - k) to ++ reverse old) (sym d);
     }
 
+-- a block is laid where its statements are
+pub block_done : (x : RStmt) (first k : ℕ) (to : Targets) (old : List Edge) (items ss : List RStmt) (next : ℕ) (now : List Edge) → x ≡ stmt.Block ss → items ≡ ss → k ≡ first → Block k to old items 0 k next now → IsLaid x first to next old now
+block_done x first k to old items ss next now is its ks b = laid_as x (laid_at (RStmt-F.Block (map laid items))) first to next old now (ap laid (is ∙ ap stmt.Block (sym its)) ∙ laid_block items)
+    (b.begins ∙ ap (λ v. entry_all (map laid items) v to) ks) (b.stands ∙ ap (λ v. edges_all (map laid items) v to ++ reverse old) ks)
+
+pub block_size : (x : RStmt) (items ss : List RStmt) → x ≡ stmt.Block ss → items ≡ ss → node_count x ≡ sum (map node_count items)
+block_size x items ss is its = ap node_count (is ∙ ap stmt.Block (sym its) ∙ sym (stmt.rolls-Block items)) ∙ fold-roll-RStmt ℕ ℕ nodes_at arm_nodes_at (RStmt-F.Block items)
+
 -- ---- the arms of an `if`
 
-pub arms_number : (x : RStmt) (first : ℕ) (to : Targets) (old : List Edge) (items : List RArm) (i m entry : ℕ) (now : List Edge) (a : RArm) → Arms x first to old items i m entry now → 0 < i → slice_get items (i - 1) ≡ Some a
+pub arms_number : (first : ℕ) (items : List RArm) (i m : ℕ) (a : RArm) → m ≡ first + sum (map arm_count (take i items)) → 0 < i → slice_get items (i - 1) ≡ Some a
     → m ≡ first + sum (map arm_count (take (i - 1) items)) + (1 + node_count (out-RArm a).body)
-arms_number x first to old items i m entry now a b lt h =
+arms_number first items i m a ms lt h =
     let e : i ≡ suc (i - 1) = omega arith in
     let k = ap (λ v. sum (map arm_count (take v items))) e ∙ sum_next arm_count items (i - 1) a h in
-    omega (arith, b.number, k, size_of_arm a)
+    omega (arith, ms, k, size_of_arm a)
 
 pub arms_more : (x : RStmt) (first : ℕ) (to : Targets) (old : List Edge) (items : List RArm) (i m entry : ℕ) (now : List Edge) (a : RArm) (k body : ℕ) (now' now'' : List Edge)
     → Arms x first to old items i m entry now → 0 < i → slice_get items (i - 1) ≡ Some a → k ≡ node_count (out-RArm a).body → IsLaid (out-RArm a).body (m - k) to body now now' → reverse now'' ≡ test body entry ∷ reverse now'
     → Arms x first to old items (i - 1) (m - k - 1) (m - k - 1) now''
 arms_more x first to old items i m entry now a k body now' now'' b lt h ks l pu =
     let p' = laid (out-RArm a).body in
-    let n = arms_number x first to old items i m entry now a b lt h in
+    let n = arms_number first items i m a b.number lt h in
     let d = ap (λ v. map arm_laid v) (drop_next items (i - 1) a h) ∙ ap (λ v. v ∷ map arm_laid (drop (suc (i - 1)) items)) (laid_arm a) in
     let p : suc (i - 1) ≡ i = omega arith in
     let j = m - k - 1 in
@@ -237,19 +245,23 @@ begun x first to old items last m entry now is h e r = record {
   stands = r ∙ ap (λ v. edges_arms (map arm_laid v) (last_laid last) m to ++ reverse old) (sym (drop_all (length items) items (omega arith)));
 }
 
-pub begun_some : (x : RStmt) (first : ℕ) (to : Targets) (old : List Edge) (items arms : List RArm) (last : Option RStmt) (s g g' : RStmt) (z k m m0 entry e0 : ℕ) (now now0 : List Edge) → x ≡ stmt.If arms last → items ≡ arms → last ≡ Some s
-    → z ≡ node_count x → k ≡ node_count g → g ≡ s → g' ≡ s → m0 ≡ first + z - k → m ≡ m0 → entry ≡ e0 → now ≡ now0 → IsLaid g' m0 to e0 old now0 → Arms x first to old items (length items) m entry now
-begun_some x first to old items arms last s g g' z k m m0 entry e0 now now0 is its ls zs ks gs gs' m0s ms es ns l =
+-- the last statement of an `if` is laid before its arms
+pub begun_some : (x : RStmt) (first : ℕ) (to : Targets) (old : List Edge) (items arms : List RArm) (last : Option RStmt) (s g g' : RStmt) (z k m entry : ℕ) (now : List Edge) → x ≡ stmt.If arms last → items ≡ arms → last ≡ Some s
+    → z ≡ node_count x → k ≡ node_count g → g ≡ s → g' ≡ s → m ≡ first + z - k → IsLaid g' m to entry old now → Arms x first to old items (length items) m entry now
+begun_some x first to old items arms last s g g' z k m entry now is its ls zs ks gs gs' ms l =
     let is' : x ≡ stmt.If items (Some s) = is ∙ ap (λ v. stmt.If v last) (sym its) ∙ ap (λ v. stmt.If items v) ls in
-    begun x first to old items (Some s) m entry now is' (omega (arith, ap node_count is', if_size items (Some s), zs, ks, ap node_count gs, m0s, ms))
-    (es ∙ l.0 ∙ ap (λ v. (laid v).entry m0 to) gs' ∙ ap (λ v. (laid s).entry v to) (sym ms))
-    (ap reverse ns ∙ l.1 ∙ ap (λ v. (laid v).edges m0 to ++ reverse old) gs' ∙ ap (λ v. (laid s).edges v to ++ reverse old) (sym ms))
+    begun x first to old items (Some s) m entry now is' (omega (arith, ap node_count is', if_size items (Some s), zs, ks, ap node_count gs, ms))
+    (l.0 ∙ ap (λ v. (laid v).entry m to) gs') (l.1 ∙ ap (λ v. (laid v).edges m to ++ reverse old) gs')
 
-pub begun_none : (x : RStmt) (first : ℕ) (to : Targets) (old : List Edge) (items arms : List RArm) (last : Option RStmt) (z m entry : ℕ) (now : List Edge) → x ≡ stmt.If arms last → items ≡ arms → last ≡ None
-    → z ≡ node_count x → m ≡ first + z → entry ≡ to.next → now ≡ old → Arms x first to old items (length items) m entry now
-begun_none x first to old items arms last z m entry now is its ls zs ms es ns =
+pub begun_none : (x : RStmt) (first : ℕ) (to : Targets) (old : List Edge) (items arms : List RArm) (last : Option RStmt) (z : ℕ) → x ≡ stmt.If arms last → items ≡ arms → last ≡ None → z ≡ node_count x
+    → Arms x first to old items (length items) (first + z) to.next old
+begun_none x first to old items arms last z is its ls zs =
     let is' : x ≡ stmt.If items None = is ∙ ap (λ v. stmt.If v last) (sym its) ∙ ap (λ v. stmt.If items v) ls in
-    begun x first to old items None m entry now is' (omega (arith, zs, ms)) es (ap reverse ns)
+    begun x first to old items None (first + z) to.next old is' (omega (arith, zs)) refl refl
+
+-- the nodes of the arms fit before what is behind them
+pub arms_fit : (x : RStmt) (items arms : List RArm) (last : Option RStmt) → x ≡ stmt.If arms last → items ≡ arms → node_count x ≡ sum (map arm_count items) + count_some last
+arms_fit x items arms last is its = ap node_count (is ∙ ap (λ v. stmt.If v last) (sym its)) ∙ if_size items last
 
 -- the end node stands behind all others
 pub whole : (k entry : ℕ) (body : RStmt) (n0 n1 n2 ns : List Edge) → k ≡ node_count body → n0 ≡ [] → n1 ≡ n0 ++ (None, None) ∷ [] → IsLaid body 0 (to_end k) entry n1 n2 → ns ≡ reverse n2 → (entry, ns) ≡ edges_of_body body

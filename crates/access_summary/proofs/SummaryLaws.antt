@@ -1,12 +1,12 @@
 -- The sets that the solver finds are the cells that functions may access.
-use Rattle.std.proofs.Common.{◌≡◌, ℕ, ◌+◌, ◌<◌, ◌≤◌, ◌↔◌, true, false, List, [], ◌∷◌, ◌++◌, length, Some, slice_get, get_or, refl, sym, ap, subst, ◌∙◌, arith, inl, inr, length-append, add-one}
+use Rattle.std.proofs.Common.{◌≡◌, ℕ, ◌+◌, ◌<◌, ◌↔◌, true, false, List, [], ◌∷◌, ◌++◌, length, slice_get, get_or, refl, sym, ap, subst, ◌∙◌, arith, inl, inr, length-append}
 use Rattle.std.proofs.Math.ListN.{get_or-append}
 use Rattle.std.proofs.Math.Seq.{get_or-append_seam}
-use Rattle.std.proofs.lemmas.Bool.{cases_eq, cases_lt, false≢true}
+use Rattle.std.proofs.lemmas.Bool.{cases_eq, cases_lt}
 use Rattle.std.proofs.lemmas.List.{get_or_past}
-use Rattle.std.proofs.lemmas.Option.{slice_get_within, none-some}
+use Rattle.std.proofs.lemmas.Option.{none-some}
 use Rattle.cell_sets.specs.Sets.{Cells, universe_of, has}
-use Rattle.path_laws.specs.Reaching.{joins, in_row, AllWide, IsPath, Until, Reaches, IsSolution}
+use Rattle.path_laws.specs.Reaching.{joins, in_row, AllWide, IsPath, Until, Reaches}
 use Rattle.c_tree.specs.declared.resolved.RFunction.{RFunction}
 use Rattle.c_tree.specs.declared.resolved.Resolved.{Resolved}
 use Rattle.c_tree.specs.Layout.{cell_count}

@@ -1,7 +1,7 @@
 -- What statements may read and write, and which functions they call: the effects, in the order of the text.
-use Rattle.std.specs.Prelude.{ℕ, ℤ, pos, negsuc, List, [], ◌∷◌, ◌++◌, Option, Some, None}
+use Rattle.std.specs.Prelude.{ℕ, pos, List, [], ◌∷◌, ◌++◌, Option, Some, None}
 use Rattle.c_tree.specs.declared.resolved.Direction.{Direction}
-use Rattle.c_tree.specs.declared.resolved.Direction.TheVariants.{Forward, Back}
+use Rattle.c_tree.specs.declared.resolved.Direction.TheVariants.{Forward}
 use Rattle.c_tree.specs.declared.resolved.RExpr.{RExpr}
 use Rattle.c_tree.specs.declared.resolved.RExpr.TheOpen.{RExpr-F}
 use Rattle.c_tree.specs.declared.resolved.RExpr.TheFolds.{fold-RExpr}
@@ -14,7 +14,6 @@ use Rattle.c_tree.specs.declared.resolved.RArm.{RArm}
 use Rattle.c_tree.specs.declared.resolved.RStmt.{RStmt}
 use Rattle.c_tree.specs.declared.resolved.RStmt.TheOpen.{RStmt-F, RArm-F}
 use Rattle.c_tree.specs.declared.resolved.RStmt.TheFolds.{fold-RStmt, fold-RArm}
-use Rattle.alias_sets.specs.declared.flows.PointerVar.{PointerVar}
 use Rattle.alias_sets.specs.declared.flows.PointerVar.TheVariants as var
 use Rattle.alias_sets.specs.declared.flows.Source.{Source}
 use Rattle.alias_sets.specs.declared.flows.Source.TheVariants as source'

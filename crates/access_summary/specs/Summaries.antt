@@ -1,7 +1,7 @@
 -- Which cells a function may read and write, with all that it reaches by calls.
-use Rattle.std.specs.Prelude.{◌≡◌, ◌↔◌, ℕ, ◌+◌, ◌<◌, ◌⊎◌, true, false, List, [], ◌∷◌, length, Some, slice_get, slice_index_or}
+use Rattle.std.specs.Prelude.{◌≡◌, ◌↔◌, ℕ, ◌+◌, ◌<◌, true, List, [], ◌∷◌, length, Some, slice_get, slice_index_or}
 use Rattle.cell_sets.specs.Sets.{Cells}
-use Rattle.path_laws.specs.Reaching.{joins, in_row, AllWide, IsSolution}
+use Rattle.path_laws.specs.Reaching.{in_row, AllWide}
 use Rattle.c_tree.specs.declared.resolved.RFunction.{RFunction}
 use Rattle.c_tree.specs.declared.resolved.Resolved.{Resolved}
 use Rattle.c_tree.specs.Layout.{cell_count}

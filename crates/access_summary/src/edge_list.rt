@@ -1,11 +1,12 @@
 //! The edges between the nodes of a function, made from the last node to the first.
 
-ghost use Rattle.std.specs.Prelude.{◌≡◌, ◌++◌, ◌∷◌, ◌<◌, ◌+◌, ◌^◌, [], length, reverse, slice_get, IfOk, IfSome, OnOk, MatchOption, Some};
+ghost use Rattle.std.specs.Prelude.{◌≡◌, ℕ, ◌++◌, ◌∷◌, ◌<◌, ◌≤◌, ◌+◌, ◌-◌, ◌^◌, List, [], length, map, sum, reverse, slice_get, IfOk, IfSome, OnOk, MatchOption, Some};
 ghost use Rattle.c_tree.specs.Nodes as nodes;
+ghost use Rattle.c_tree.specs.declared.resolved.RStmt.{RStmt};
 ghost use Rattle.access_summary.specs.Edges as spec;
-ghost use Rattle.access_summary.specs.Laying.{IsLaid};
+ghost use Rattle.access_summary.specs.Laying.{IsLaid, Block, Arms};
 
-use c_tree::{Checked, RAssign, RInit, RStmt, node_count};
+use c_tree::{Checked, RArm, RAssign, RInit, RStmt, node_count};
 use ckpt_base::NoMemory;
 use sqlite_items::Items;
 use std::alloc::Global;
@@ -131,7 +132,61 @@ fn loop_targets(again: u32, to: Targets) -> Targets
     }
 }
 
-/// Appends the edges of a statement, the last first, and answers the node at which it begins.
+/// Appends the edges of statements one after the other, the last first, and answers the node at which they begin. Their nodes
+/// end before `behind`.
+#[cycle(lay)]
+fn lay_all(
+    stmts: &[RStmt],
+    behind: u32,
+    to: Targets,
+    edges: &mut Items<Edge>,
+) -> Result<u32, NoMemory>
+    requires fits { sum (map nodes.node_count stmts.now) ≤ behind }
+    ensures laid { IfOk result (λ n. let first : ℕ = behind - sum (map nodes.node_count stmts.now) in Block first to edges.old stmts.now 0 first n edges.new) }
+{
+    let mut m = behind;
+    let mut next = to.next;
+    let mut i = stmts.len();
+    'block: while i > 0 {
+        i -= 1;
+        let s = &stmts[i];
+        m -= node_count(s);
+        next = lay(s, m, Targets { next, ..to }, edges)?;
+    }
+    Ok(next)
+}
+
+/// Appends the edges of the arms of an `if`, the last first, behind those of its last statement, and answers the node at which
+/// it begins. The nodes of the arms end before `behind`, and `last` is the node that the last test goes on to.
+#[cycle(lay)]
+fn lay_arms(
+    arms: &[RArm],
+    behind: u32,
+    last: u32,
+    to: Targets,
+    edges: &mut Items<Edge>,
+) -> Result<u32, NoMemory>
+    requires fits { sum (map nodes.arm_count arms.now) ≤ behind }
+    ensures laid { IfOk result (λ n. (s : RStmt) (first : ℕ) (old : List spec.Edge) → Arms s first to old arms.now (length arms.now) behind last edges.old → IsLaid s first to n old edges.new) }
+{
+    let mut m = behind;
+    let mut entry = last;
+    let mut i = arms.len();
+    'arms: while i > 0 {
+        i -= 1;
+        let arm = &arms[i];
+        m -= node_count(&arm.body);
+        let body = lay(&arm.body, m, to, edges)?;
+        m -= 1;
+        push_test(edges, body, entry)?;
+        entry = m;
+    }
+    Ok(entry)
+}
+
+/// Appends the edges of a statement, the last first, and answers the node at which it begins. The test of a `do` stands behind
+/// its body, and goes on to where the body begins.
+#[cycle(lay)]
 fn lay(stmt: &RStmt, first: u32, to: Targets, edges: &mut Items<Edge>) -> Result<u32, NoMemory>
     requires fits { first + nodes.node_count stmt.now < 2 ^ 32 }
     ensures laid { IfOk result (λ m. IsLaid stmt.now first to m edges.old edges.new) }
@@ -155,38 +210,18 @@ fn lay(stmt: &RStmt, first: u32, to: Targets, edges: &mut Items<Edge>) -> Result
             push(edges, to.end)?;
             Ok(first)
         }
-        RStmt::Block(stmts) => {
-            let mut m = first + node_count(stmt);
-            let mut next = to.next;
-            let items = stmts.as_slice();
-            let mut i = items.len();
-            'block: while i > 0 {
-                i -= 1;
-                let s = &items[i];
-                m -= node_count(s);
-                next = lay(s, m, Targets { next, ..to }, edges)?;
-            }
-            Ok(next)
-        }
+        RStmt::Block(stmts) => lay_all(stmts.as_slice(), first + node_count(stmt), to, edges),
         RStmt::If(arms, last) => {
-            let mut m = first + node_count(stmt);
-            let mut entry = to.next;
-            if let Some(s) = last {
-                m -= node_count(s.get());
-                entry = lay(s.get(), m, to, edges)?;
+            let behind = first + node_count(stmt);
+            match last {
+                None => lay_arms(arms.as_slice(), behind, to.next, to, edges),
+                Some(s) => {
+                    let m = behind - node_count(s.get());
+                    let entry = lay(s.get(), m, to, edges)?;
+                    let start = lay_arms(arms.as_slice(), m, entry, to, edges)?;
+                    Ok(start)
+                }
             }
-            let items = arms.as_slice();
-            let mut i = items.len();
-            'arms: while i > 0 {
-                i -= 1;
-                let a = &items[i];
-                m -= node_count(&a.body);
-                let body = lay(&a.body, m, to, edges)?;
-                m -= 1;
-                push_test(edges, body, entry)?;
-                entry = m;
-            }
-            Ok(entry)
         }
         RStmt::While(_, s) => {
             let body = lay(s.get(), first + 1, loop_targets(first, to), edges)?;
@@ -194,7 +229,6 @@ fn lay(stmt: &RStmt, first: u32, to: Targets, edges: &mut Items<Edge>) -> Result
             Ok(first)
         }
         RStmt::Do(s, _) => {
-            // the test stands behind the body, and goes on to where the body begins
             let test = first + node_count(s.get());
             let place = edges.len();
             edges.push((None, None))?;

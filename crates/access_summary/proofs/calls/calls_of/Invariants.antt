@@ -1,4 +1,4 @@
-use Rattle.std.proofs.Common.{◌≡◌, ℕ, [], length}
+use Rattle.std.proofs.Common.{◌≡◌, [], length}
 use Rattle.access_summary.specs.CallEdges.{AddsEdges, CallsBelow}
 use Rattle.access_summary.proofs.calls.calls_of.Given as goal
 

@@ -1,4 +1,4 @@
-use Rattle.std.proofs.Common.{◌≡◌, ℕ, List, Contains, subst}
+use Rattle.std.proofs.Common.{ℕ, List, Contains, subst}
 use Rattle.access_summary.specs.Touch.{Adds, LiesIn}
 use Rattle.access_summary.proofs.Adding.{objects_of_variable}
 use Rattle.access_summary.proofs.touch.add_source.Goals as goal
