@@ -17,7 +17,7 @@ use Rattle.machine_code.specs.declared.instr.Instr.{Instr}
 use Rattle.machine_code.specs.declared.instr.Instr.TheVariants as instr
 use Rattle.machine_code.specs.declared.event.Caller.{Caller}
 use Rattle.machine_code.specs.CodeView.{CodeView}
-use Rattle.machine_code.specs.Row.{Done, row, ran, told}
+use Rattle.machine_code.specs.Row.{Done, row, ran}
 use Rattle.machine_code.specs.Row as row'
 use Rattle.machine_code.specs.Run.{World, unprotected, row_at, Reaches}
 use Rattle.machine_code.proofs.RunLaws.{reaches_on}

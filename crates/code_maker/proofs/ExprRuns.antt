@@ -21,7 +21,7 @@ use Rattle.machine_code.specs.declared.instr.Instr.TheVariants as instr
 use Rattle.machine_code.specs.declared.event.Caller.{Caller}
 use Rattle.machine_code.specs.CodeView.{CodeView}
 use Rattle.machine_code.specs.State.{State as Machine, top}
-use Rattle.machine_code.specs.Row.{row, ran, answered}
+use Rattle.machine_code.specs.Row.{row, answered}
 use Rattle.machine_code.specs.Row as row'
 use Rattle.machine_code.specs.Run.{World, unprotected}
 use Rattle.code_maker.specs.ExprCode.{Block, both, then_one, unary_instr, binary_instr, move_instr, and_block, or_block, expr_block_at, expr_block}

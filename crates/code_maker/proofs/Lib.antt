@@ -26,6 +26,8 @@ pub mod Blocks
 pub mod Emitted
 -- the code of graphs, as it is made
 pub mod Making
+-- how many operands several values need
+pub mod ValueDepths
 -- the depths of a block of instructions
 pub mod DepthList
 -- blocks that jump within themselves

@@ -7,14 +7,14 @@ use Rattle.ckpt_base.specs.Word.{word_holds}
 use Rattle.c_tree.specs.declared.resolved.RExpr.{RExpr}
 use Rattle.c_tree.specs.declared.resolved.RPlace.{RPlace}
 use Rattle.c_tree.specs.declared.resolved.RPlace.TheVariants as place
-use Rattle.c_tree.specs.State.{State, Action, ticked, with_locals, with_event, entry_locals, value, values, declare, set, store, put, write_out, input, exclude, checkpoint, take_from, ◌>>=◌}
+use Rattle.c_tree.specs.State.{State, Action, ticked, with_locals, entry_locals, value, values, declare, set, store, put, write_out, input, exclude, checkpoint, take_from}
 use Rattle.c_tree.specs.State as tree
 use Rattle.c_tree.specs.Kinds.{World as Rules, Signature, call_kind, answer_of, are_given}
 use Rattle.access_summary.specs.Edges.{Edge}
 use Rattle.flow_graph.specs.declared.node.NodeWork.{NodeWork}
 use Rattle.flow_graph.specs.declared.node.NodeWork.TheVariants as work
 use Rattle.flow_graph.specs.WorkRules.{work_keeps}
-use Rattle.flow_graph.specs.Run.{Graph, Graphs, Frame, Waits, Store, Return, Spot, spot, graph_at, edge_in, work_in, Step, Over, On, Steps, ticks, given, goes, single, enters, made, nowhere, calls, does, does_node, step, after, run}
+use Rattle.flow_graph.specs.Run.{Graph, Graphs, Frame, Waits, Store, Return, Spot, spot, graph_at, edge_in, work_in, Step, Over, On, ticks, given, goes, single, enters, made, nowhere, calls, does, does_node, step, after, run}
 use Rattle.flow_graph.specs.Run as graph
 use Rattle.flow_graph.proofs.Steps.{Less, step_less}
 use Rattle.machine_code.specs.declared.instr.Instr.{Instr}

@@ -1,26 +1,22 @@
 -- Runs of the code from behind a checkpoint, over memories that agree on what is wanted.
-use Rattle.std.proofs.Common.{◌≡◌, ℕ, zero, suc, ◌+◌, ◌⊎◌, inl, inr, ⊎_elim, List, [], ◌∷◌, ◌++◌, length, Option, Some, None, Bool, true, false, refl, sym, ap, ◌∙◌, subst, arith}
-use Rattle.std.specs.Prelude.{slice_get, slice_index, ◌||◌}
-use Rattle.std.specs.List.{Contains}
+use Rattle.std.proofs.Common.{◌≡◌, ℕ, zero, suc, inl, inr, ⊎_elim, List, [], ◌∷◌, ◌++◌, Some, None, Bool, true, false, refl, sym, ap, ◌∙◌, subst}
+use Rattle.std.specs.Prelude.{slice_index, ◌||◌}
 use Rattle.std.proofs.lemmas.Bool.{cases_eq, eqb-true, eq-eqb}
 use Rattle.std.proofs.lemmas.List.{append_cancel_left}
-use Rattle.ckpt_base.specs.declared.ending.Ending.TheVariants.{Going}
 use Rattle.ckpt_base.specs.Event.{Checkpoint}
 use Rattle.ckpt_base.specs.Run.{Run}
 use Rattle.c_tree.specs.declared.resolved.Resolved.{Resolved}
 use Rattle.c_tree.specs.Checked.{IsChecked}
 use Rattle.c_tree.specs.State.{State, first_state}
-use Rattle.c_tree.specs.Meaning.{over}
 use Rattle.path_laws.specs.Edge.{is_at}
 use Rattle.path_laws.specs.Graph as effects
 use Rattle.path_laws.specs.Graph.{next_of, has_edge}
-use Rattle.path_laws.specs.Forgettable.{IsForgettable}
 use Rattle.access_summary.specs.Edges.{Edge}
 use Rattle.flow_graph.specs.declared.node.NodeWork.TheVariants as work
 use Rattle.flow_graph.specs.MainGraph.{IsMainGraph}
-use Rattle.flow_graph.specs.Run.{Graphs, Spot, spot, Step, On, step, graph_run, graphs_of, at_entry}
+use Rattle.flow_graph.specs.Run.{Graphs, Spot, spot, On, graph_run, graphs_of, at_entry}
 use Rattle.flow_graph.specs.Wanted.{IsWanted}
-use Rattle.flow_graph.specs.Agreement.{Place, Counts, AreAlike, KeepsPointers, AgreeAt, EndAlike, ComesTo, AlikeAfter}
+use Rattle.flow_graph.specs.Agreement.{Place, Counts, AgreeAt, EndAlike, ComesTo}
 use Rattle.flow_graph.proofs.AgreeStores.{nothing_there}
 use Rattle.flow_graph.proofs.AgreeRuns.{runs_alike, comes_alike, stands_alike, images_agree}
 use Rattle.flow_graph.proofs.AgreeFirst.{first_agrees}
@@ -33,7 +29,7 @@ use Rattle.code_maker.specs.Resumed.{IsCheckpointTo, AreResumed, StopsBehind, Ke
 use Rattle.code_maker.proofs.Means.{code_means}
 use Rattle.code_maker.proofs.Segments.{some_is}
 use Rattle.code_maker.proofs.ResumedSteps.{Moved, step_moved}
-use Rattle.code_maker.proofs.ResumedRuns.{last_event, last_behind, IsRightBehind, Since, since_first, since_moved}
+use Rattle.code_maker.proofs.ResumedRuns.{last_event, last_behind, Since, since_first, since_moved}
 
 module _ (p : Resolved) (checked : IsChecked p) (g : effects.Graph) (is_main : IsMainGraph p g) where
   abbrev gs : Graphs

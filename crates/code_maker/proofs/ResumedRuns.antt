@@ -1,9 +1,7 @@
 -- Where a run stands whose last event is a checkpoint: right behind it.
-use Rattle.std.proofs.Common.{◌≡◌, ℕ, zero, suc, ◌+◌, ◌<◌, ◌≤◌, ◌⊎◌, inl, inr, ⊎_elim, List, [], ◌∷◌, ◌++◌, length, map, Option, Some, None, Bool, true, false, refl, sym, ap, ◌∙◌, subst, arith, append_assoc, append-nil}
-use Rattle.std.specs.Prelude.{slice_get, slice_index, ◌||◌}
+use Rattle.std.proofs.Common.{◌≡◌, ℕ, ◌≤◌, inl, inr, List, [], ◌∷◌, ◌++◌, Option, Some, None, true, false, refl, sym, ap, ◌∙◌, subst, arith, append_assoc, append-nil}
+use Rattle.std.specs.Prelude.{slice_get}
 use Rattle.std.specs.Option.{option_map}
-use Rattle.std.proofs.lemmas.Bool.{cases_eq, eqb-true, or_cases}
-use Rattle.std.proofs.lemmas.List.{append_cancel_left}
 use Rattle.std.proofs.lemmas.Option.{slice_get-map}
 use Rattle.ckpt_base.specs.Event.{Event, Byte, Wrote, Took, Excluded, Checkpoint}
 use Rattle.c_tree.specs.declared.resolved.RFunction.{RFunction}
@@ -11,12 +9,10 @@ use Rattle.c_tree.specs.declared.resolved.Resolved.{Resolved}
 use Rattle.c_tree.specs.Checked.{IsChecked, in_function}
 use Rattle.c_tree.specs.State.{State, ticked}
 use Rattle.access_summary.specs.Edges.{Edge}
-use Rattle.flow_graph.specs.declared.node.NodeWork.{NodeWork}
 use Rattle.flow_graph.specs.declared.node.NodeWork.TheVariants as work
 use Rattle.flow_graph.specs.Works.{works_of_body}
 use Rattle.flow_graph.specs.WorkRules.{work_keeps}
-use Rattle.flow_graph.specs.Joined.{FitsWork}
-use Rattle.flow_graph.specs.Run.{Graph, Graphs, Frame, Spot, spot, Step, Over, On, step, graph_at, edge_in, work_in, graph_of_function, graphs_of}
+use Rattle.flow_graph.specs.Run.{Graph, Graphs, Frame, Spot, spot, On, graph_at, edge_in, work_in, graph_of_function, graphs_of}
 use Rattle.flow_graph.specs.Agreement.{AreCalls}
 use Rattle.flow_graph.proofs.Joins.{graph_is_joined}
 use Rattle.flow_graph.proofs.WorkRuleLaws.{all_at, function_works_keep}

@@ -1,5 +1,5 @@
 -- The events of one node: only a checkpoint tells that one was passed.
-use Rattle.std.proofs.Common.{◌≡◌, ℕ, zero, suc, ◌+◌, ◌⊎◌, inl, inr, List, [], ◌∷◌, ◌++◌, length, map, Option, Some, None, Result, Ok, Err, Bool, true, false, refl, sym, ap, ◌∙◌, subst, append_assoc, append-nil}
+use Rattle.std.proofs.Common.{◌≡◌, ℕ, zero, suc, ◌+◌, ◌⊎◌, inl, inr, List, [], ◌∷◌, ◌++◌, length, map, Option, Some, None, Result, Ok, Err, Bool, true, false, refl, sym, ap, ◌∙◌, append_assoc, append-nil}
 use Rattle.std.specs.Prelude.{slice_get, if◌then◌else◌, nat_lt}
 use Rattle.ckpt_base.specs.declared.trap.Trap.{Trap}
 use Rattle.ckpt_base.specs.Event.{Event, Byte, Wrote, Took, Excluded, Checkpoint}
@@ -8,7 +8,7 @@ use Rattle.ckpt_base.specs.Word.{word_holds}
 use Rattle.c_tree.specs.declared.tree.PrintPiece.{PrintPiece}
 use Rattle.c_tree.specs.declared.resolved.RExpr.{RExpr}
 use Rattle.c_tree.specs.declared.resolved.RPlace.{RPlace}
-use Rattle.c_tree.specs.State.{State, Variables, Action, Target, ToCell, ToLocal, Through, ◌>>=◌, target, value, values, write, set, store, declare, put, printed, write_out, take, take_from, input, exclude, ticked, with_locals, with_event}
+use Rattle.c_tree.specs.State.{State, Action, Target, ToCell, ToLocal, Through, ◌>>=◌, target, value, values, write, set, store, declare, put, printed, write_out, take, take_from, input, exclude, ticked, with_locals, with_event}
 use Rattle.access_summary.specs.Edges.{Edge}
 use Rattle.flow_graph.specs.declared.node.NodeWork.{NodeWork}
 use Rattle.flow_graph.specs.declared.node.NodeWork.TheVariants as work

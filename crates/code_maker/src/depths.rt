@@ -1,6 +1,6 @@
 //! How many operands a code needs.
 
-ghost use Rattle.std.specs.Prelude.{◌≡◌, ◌+◌, max, IfOk};
+ghost use Rattle.std.specs.Prelude.{◌≡◌, ◌+◌, ◌^◌, ◌≤◌, max, IfOk, OnErr};
 ghost use Rattle.code_maker.specs.Depths as spec;
 
 use c_tree::{RExpr, RPlace};
@@ -10,6 +10,7 @@ use flow_graph::NodeWork;
 /// The depth of two values, of which the left one lies below the right one. A depth that no code can name is refused here, as one for which no memory is found.
 fn beside(left: u32, right: u32) -> Result<u32, NoMemory>
     ensures answer { IfOk result (λ d. d ≡ max left (right + 1)) }
+    ensures err { OnErr result (2 ^ 32 ≤ max left (right + 1)) }
 {
     if right == u32::MAX {
         return Err(NoMemory);
@@ -20,6 +21,7 @@ fn beside(left: u32, right: u32) -> Result<u32, NoMemory>
 /// The greatest number of operands while an expression is evaluated.
 fn expr_depth(expr: &RExpr) -> Result<u32, NoMemory>
     ensures answer { IfOk result (λ d. d ≡ spec.expr_depth expr.now) }
+    ensures err { OnErr result (2 ^ 32 ≤ spec.expr_depth expr.now) }
 {
     match expr {
         RExpr::Num(_) => Ok(1),
@@ -51,6 +53,7 @@ fn expr_depth(expr: &RExpr) -> Result<u32, NoMemory>
 /// The greatest number of operands while expressions are evaluated, of which each value stays.
 fn values_depth(exprs: &[RExpr]) -> Result<u32, NoMemory>
     ensures answer { IfOk result (λ d. d ≡ spec.values_depth exprs.now) }
+    ensures err { OnErr result (2 ^ 32 ≤ spec.values_depth exprs.now) }
 {
     let mut depth = 0;
     'exprs: for i in (0..exprs.len()).rev() {
@@ -62,6 +65,7 @@ fn values_depth(exprs: &[RExpr]) -> Result<u32, NoMemory>
 /// The greatest number of operands while a value that needs so many is stored.
 fn set_depth(place: &RPlace, value: u32) -> Result<u32, NoMemory>
     ensures answer { IfOk result (λ d. d ≡ spec.set_depth place.now value) }
+    ensures err { OnErr result (2 ^ 32 ≤ spec.set_depth place.now value) }
 {
     match place {
         RPlace::Cell(_) => Ok(value),
@@ -73,6 +77,7 @@ fn set_depth(place: &RPlace, value: u32) -> Result<u32, NoMemory>
 /// The greatest number of operands while what a declaration stores is evaluated.
 fn given_depth(value: &Option<RExpr>) -> Result<u32, NoMemory>
     ensures answer { IfOk result (λ d. d ≡ spec.given_depth value.now) }
+    ensures err { OnErr result (2 ^ 32 ≤ spec.given_depth value.now) }
 {
     match value {
         None => Ok(1),
@@ -83,6 +88,7 @@ fn given_depth(value: &Option<RExpr>) -> Result<u32, NoMemory>
 /// The greatest number of operands while a node is done.
 pub fn work_depth(work: &NodeWork) -> Result<u32, NoMemory>
     ensures answer { IfOk result (λ d. d ≡ spec.work_depth work.now) }
+    ensures err { OnErr result (2 ^ 32 ≤ spec.work_depth work.now) }
 {
     match work {
         NodeWork::Declare { place, value } => set_depth(place, given_depth(value)?),

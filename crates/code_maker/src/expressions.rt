@@ -1,6 +1,6 @@
 //! The code of expressions.
 
-ghost use Rattle.std.specs.Prelude.{◌≡◌, ◌+◌, ◌-◌, ◌<◌, ◌^◌, ◌++◌, ◌∷◌, [], pos, length, slice_set, IfOk, OnOk};
+ghost use Rattle.std.specs.Prelude.{◌≡◌, ◌+◌, ◌-◌, ◌<◌, ◌≤◌, ◌^◌, ◌++◌, ◌∷◌, [], pos, length, slice_set, IfOk, OnOk, OnErr};
 ghost use Rattle.machine_code.specs.declared.instr.Instr.TheVariants as instr;
 ghost use Rattle.code_maker.specs.ExprCode as spec;
 
@@ -12,6 +12,7 @@ use machine_code::Instr;
 pub fn place(p: usize) -> Result<u32, NoMemory>
     ensures same { IfOk result (λ q. q ≡ p) }
     ensures small { IfOk result (λ q. q < 2 ^ 32 - 1) }
+    ensures err { OnErr result (2 ^ 32 - 1 ≤ p) }
 {
     if p >= u32::MAX as usize {
         return Err(NoMemory);
@@ -166,8 +167,8 @@ pub fn emit_expr(code: &mut Vec<Instr>, expr: &RExpr) -> Result<(), NoMemory>
 pub fn emit_values(code: &mut Vec<Instr>, exprs: &[RExpr]) -> Result<(), NoMemory>
     ensures code { OnOk result (code.new.items ≡ code.old.items ++ spec.values_block exprs.now (length code.old.items)) }
 {
-    'exprs: for expr in exprs {
-        emit_expr(code, expr)?;
+    'exprs: for i in 0..exprs.len() {
+        emit_expr(code, &exprs[i])?;
     }
     Ok(())
 }

@@ -1,7 +1,7 @@
 //! The code of nodes.
 
 ghost use Rattle.std.specs.Prelude.{◌≡◌, ◌+◌, ◌-◌, ◌*◌, ◌<◌, ◌≤◌, ◌^◌, ◌++◌, ◌∷◌, [], length, OnOk};
-ghost use Rattle.code_maker.specs.ExprCode.{values_block};
+ghost use Rattle.code_maker.specs.ExprCode.{then_one, expr_block, values_block};
 ghost use Rattle.code_maker.specs.NodeCode as spec;
 
 use crate::expressions::{emit_expr, emit_values, place, put};
@@ -119,13 +119,68 @@ fn emit_go_on(
 }
 
 /// Appends the code that writes pieces with some values.
-fn emit_print(code: &mut Vec<Instr>, pieces: &[PrintPiece], args: &[RExpr]) -> Result<(), NoMemory>
-    ensures code { OnOk result (code.new.items ≡ code.old.items ++ (values_block args.now (length code.old.items) ++ spec.print_code (length args.now) pieces.now)) }
+fn emit_print(
+    code: &mut Vec<Instr>,
+    pieces: &[PrintPiece],
+    values: &[RExpr],
+) -> Result<(), NoMemory>
+    ensures code { OnOk result (code.new.items ≡ code.old.items ++ (values_block values.now (length code.old.items) ++ spec.print_code (length values.now) pieces.now)) }
 {
-    let n = place(args.len())?;
-    emit_values(code, args)?;
+    let n = place(values.len())?;
+    emit_values(code, values)?;
     emit_pieces(code, n, pieces)?;
     emit_drops(code, n)
+}
+
+/// Appends two instructions.
+fn put_both(code: &mut Vec<Instr>, first: Instr, second: Instr) -> Result<(), NoMemory>
+    ensures code { OnOk result (code.new.items ≡ code.old.items ++ (first ∷ second ∷ [])) }
+{
+    put(code, first)?;
+    put(code, second)
+}
+
+/// Appends the code of an expression, and the instruction that takes its value.
+fn emit_taken(code: &mut Vec<Instr>, value: &RExpr, taker: Instr) -> Result<(), NoMemory>
+    ensures code { OnOk result (code.new.items ≡ code.old.items ++ then_one (expr_block value.now) taker (length code.old.items)) }
+{
+    emit_expr(code, value)?;
+    put(code, taker)
+}
+
+/// Appends the code that declares a variable.
+fn emit_declare(
+    code: &mut Vec<Instr>,
+    place: &RPlace,
+    value: &Option<RExpr>,
+) -> Result<(), NoMemory>
+    ensures code { OnOk result (code.new.items ≡ code.old.items ++ spec.set_block place.now (spec.given_block value.now) (length code.old.items)) }
+{
+    emit_pointer(code, place)?;
+    emit_given(code, value)?;
+    put(code, store_instr(place))
+}
+
+/// Appends the code that stores the value of an expression.
+fn emit_set(code: &mut Vec<Instr>, place: &RPlace, value: &RExpr) -> Result<(), NoMemory>
+    ensures code { OnOk result (code.new.items ≡ code.old.items ++ spec.set_block place.now (expr_block value.now) (length code.old.items)) }
+{
+    emit_pointer(code, place)?;
+    emit_expr(code, value)?;
+    put(code, store_instr(place))
+}
+
+/// Appends the code of a call, and the instruction that takes its answer.
+fn emit_call(
+    code: &mut Vec<Instr>,
+    function: u32,
+    args: &[RExpr],
+    taker: Instr,
+) -> Result<(), NoMemory>
+    ensures code { OnOk result (code.new.items ≡ code.old.items ++ (values_block args.now (length code.old.items) ++ (Instr.Call function ∷ taker ∷ []))) }
+{
+    emit_values(code, args)?;
+    put_both(code, Instr::Call(function), taker)
 }
 
 /// Appends what node `m` does, behind its tick, where `starts` tells the places of the segments.
@@ -140,73 +195,30 @@ fn emit_work(
     ensures code { OnOk result (code.new.items ≡ code.old.items ++ spec.work_block (spec.listed starts.now) m to work.now (length code.old.items)) }
 {
     match work {
-        NodeWork::Declare { place, value } => {
-            emit_pointer(code, place)?;
-            emit_given(code, value)?;
-            put(code, store_instr(place))?;
-            emit_go_on(code, starts, m, to.0)
-        }
-        NodeWork::Set { place, value } => {
-            emit_pointer(code, place)?;
-            emit_expr(code, value)?;
-            put(code, store_instr(place))?;
-            emit_go_on(code, starts, m, to.0)
-        }
+        NodeWork::Declare { place, value } => emit_declare(code, place, value)?,
+        NodeWork::Set { place, value } => emit_set(code, place, value)?,
         NodeWork::Call {
             place,
             function,
             args,
-        } => {
-            emit_values(code, args.as_slice())?;
-            put(code, Instr::Call(*function))?;
-            put(code, keep_instr(place))?;
-            emit_go_on(code, starts, m, to.0)
-        }
-        NodeWork::Input { place } => {
-            put(code, Instr::In)?;
-            put(code, keep_instr(place))?;
-            emit_go_on(code, starts, m, to.0)
-        }
-        NodeWork::Return { value } => {
-            emit_expr(code, value)?;
-            put(code, Instr::Ret)
-        }
-        NodeWork::ReturnCall { function, args } => {
-            emit_values(code, args.as_slice())?;
-            put(code, Instr::Call(*function))?;
-            put(code, Instr::Ret)
-        }
-        NodeWork::ReturnInput => {
-            put(code, Instr::In)?;
-            put(code, Instr::Ret)
-        }
-        NodeWork::Put { value } => {
-            emit_expr(code, value)?;
-            put(code, Instr::OutC)?;
-            emit_go_on(code, starts, m, to.0)
-        }
-        NodeWork::Print { pieces, args } => {
-            emit_print(code, pieces.as_slice(), args.as_slice())?;
-            emit_go_on(code, starts, m, to.0)
-        }
-        NodeWork::Test { value } => {
-            emit_expr(code, value)?;
-            put(code, Instr::JumpZ(start_of(starts, to.1)))?;
-            emit_go_on(code, starts, m, to.0)
-        }
-        NodeWork::Checkpoint => {
-            put(code, Instr::Ckpt(m))?;
-            emit_go_on(code, starts, m, to.0)
-        }
-        NodeWork::Exclude(k) => {
-            put(code, Instr::Excl(*k))?;
-            emit_go_on(code, starts, m, to.0)
-        }
-        NodeWork::End => {
-            put(code, Instr::Num(0))?;
-            put(code, Instr::Ret)
-        }
+        } => emit_call(code, *function, args.as_slice(), keep_instr(place))?,
+        NodeWork::Input { place } => put_both(code, Instr::In, keep_instr(place))?,
+        NodeWork::Return { value } => return emit_taken(code, value, Instr::Ret),
+        NodeWork::ReturnCall { function, args } => return emit_call(
+            code,
+            *function,
+            args.as_slice(),
+            Instr::Ret,
+        ),
+        NodeWork::ReturnInput => return put_both(code, Instr::In, Instr::Ret),
+        NodeWork::Put { value } => emit_taken(code, value, Instr::OutC)?,
+        NodeWork::Print { pieces, args } => emit_print(code, pieces.as_slice(), args.as_slice())?,
+        NodeWork::Test { value } => emit_taken(code, value, Instr::JumpZ(start_of(starts, to.1)))?,
+        NodeWork::Checkpoint => put(code, Instr::Ckpt(m))?,
+        NodeWork::Exclude(k) => put(code, Instr::Excl(*k))?,
+        NodeWork::End => return put_both(code, Instr::Num(0), Instr::Ret),
     }
+    emit_go_on(code, starts, m, to.0)
 }
 
 /// Appends the segment of node `m`, where `starts` tells the places of the segments.
