@@ -3,8 +3,7 @@
 HEAD = """// Runs a job on the machine, one tick a call.
 #![tactic(auto)]
 
-ghost use Rattle.std.specs.Prelude.{◌≡◌, ℕ, ◌+◌, ◌*◌, ◌^◌, ◌<◌, ◌≤◌, ◌-◌, length, slice_get, Some, true, false};
-ghost use Rattle.machine_code.specs.declared.instr.Instr.{Instr};
+ghost use Rattle.std.specs.Prelude.{◌≡◌, ℕ, ◌+◌, ◌*◌, ◌^◌, ◌<◌, ◌≤◌, ◌-◌, length, true, false};
 ghost use Rattle.ckpt_base.specs.declared.ending.Ending.{Ending};
 ghost use Rattle.dirty_pages.specs.Pages.{in_snapshot};
 ghost use Rattle.paged_machine.specs.Standing.{StandsIn};
@@ -21,18 +20,6 @@ use std::alloc::{AllocError, Global};
 use std::io;
 use std::marker::Brand;
 use std::sync::ledger::{Blank, Ledger};
-
-/// Whether the machine stands at a tick that would pass the bound.
-#[inline(always)]
-fn must_stop(machine: &Machine, code: &Code, until: u64) -> bool
-    requires { StandsIn code.now machine.now }
-    ensures { result ≡ false → slice_get code.now.instrs machine.now.state.place ≡ Some Instr.Tick → machine.now.state.ticks < 2 ^ 64 - 1 }
-{
-    if !machine.at_tick(code) {
-        return false;
-    }
-    machine.ticks() >= until
-}
 
 /// Runs a machine until it ends or stands at a tick that would pass the bound.
 fn go<L: Ledger>(
@@ -53,13 +40,9 @@ fn go<L: Ledger>(
     ensures clear { (p : ℕ) → in_snapshot pages.new p ≡ false }
 {
     for _ in 0..u64::MAX {
-        if must_stop(machine, code, until) {
-            return Ending::Going;
-        }
-        match machine.step(code, frames, pages, steps) {
-            Event::Ran => {}
-            Event::Ticked => {}
-            event => {
+        match machine.run_on(code, frames, pages, until, steps) {
+            None => return Ending::Going,
+            Some(event) => {
                 if let Event::WriteFault(p) = event {
                     pages.serve_fault(p);
                 }

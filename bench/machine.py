@@ -1,7 +1,7 @@
 #!/usr/bin/env python3
 """Compiles the large job of stencil.c, runs its code to the end on the machine and in a switch interpreter in C, and prints the ratio of their times.
 
-The code is that of `ckpt compile`. It copies the machine's crates into a folder of its own, writes a driver beside them that calls `Machine::step` in a plain loop, one tick a call as the
+The code is that of `ckpt compile`. It copies the machine's crates into a folder of its own, writes a driver beside them that calls `Machine::run_on`, one tick a call as the
 run of a program does, lets `rt run` prove and build it, builds the C interpreter with gcc -O2, and runs the two in turn. Usage: bench/machine.py [FOLDER]
 """
 

@@ -1,5 +1,5 @@
 -- What an event says of its instruction.
-use Rattle.std.proofs.Common.{◌≡◌, ℕ, ◌/◌, ◌<◌, List, [], ◌∷◌, length, get_or, Result, Ok, Err, Bool, true, false, cond, not, Option, Some, None, refl, sym, ap, ◌∙◌, ⊎_elim}
+use Rattle.std.proofs.Common.{◌≡◌, ℕ, ◌/◌, ◌<◌, List, [], ◌∷◌, length, get_or, Result, Ok, Err, Bool, true, false, cond, not, Option, Some, None, refl, sym, ap, ◌∙◌, subst, ⊎_elim}
 use Rattle.std.specs.Prelude.{slice_set, nat_lt}
 use Rattle.std.proofs.lemmas.Bool.{cases_lt}
 use Rattle.std.proofs.lemmas.List.{get_or_past}
@@ -8,17 +8,19 @@ use Rattle.ckpt_base.specs.declared.trap.Trap.TheVariants.{TooManyCalls}
 use Rattle.ckpt_base.specs.Event as run
 use Rattle.dirty_pages.specs.Pages.{PageStates, is_protected}
 use Rattle.machine_code.specs.declared.instr.Instr.{Instr}
-use Rattle.machine_code.specs.declared.instr.Instr.TheVariants.{StoreC, Move, Back, Fetch, Put, Div, Rem, Shl, Shr, Call, Ret, In}
+use Rattle.machine_code.specs.declared.instr.Instr.TheVariants.{Tick, StoreC, Move, Back, Fetch, Put, Div, Rem, Shl, Shr, Call, Ret, In}
 use Rattle.machine_code.specs.declared.event.Caller.{Caller}
 use Rattle.machine_code.specs.declared.event.Event.{Event}
-use Rattle.machine_code.specs.declared.event.Event.TheVariants.{Ran, WriteFault, WantsInput}
+use Rattle.machine_code.specs.declared.event.Event.TheVariants.{Ran, Ticked, WriteFault, WantsInput}
 use Rattle.machine_code.specs.CodeView.{CodeView, Function}
 use Rattle.machine_code.specs.State.{State, top, spent}
+use Rattle.machine_code.specs.Run.{row_at}
 use Rattle.machine_code.specs.Row.{Done, row, answered, stored, fetched, put, called, entered, returned, ran, trapped}
 
--- only In asks for input, and only a protected page has a fault
+-- only In asks for input, only Tick takes a tick, and only a protected page has a fault
 abbrev pub Tells : (ℕ → Bool) → Instr → Event → Type 0
 Tells protected i WantsInput = i ≡ In
+Tells protected i Ticked = i ≡ Tick
 Tells protected i (WriteFault p) = protected p ≡ true
 Tells protected i e = Unit {0}
 
@@ -59,6 +61,7 @@ module _ (protected : ℕ → Bool) (i : Instr) where
 
 pub row_tells : (c : CodeView) (protected : ℕ → Bool) (s : State) (m : List ℕ) (i : Instr) → Tells protected i (row c protected s m i).event
 row_tells c protected s m In = refl
+row_tells c protected s m Tick = refl
 row_tells c protected s m (StoreC cell) = stored_tells protected (StoreC cell) s m 1 cell (top s 0)
 row_tells c protected s m Put = put_tells protected Put s m _
 row_tells c protected s m Move = answered_tells protected Move s m 2 _
@@ -75,3 +78,12 @@ row_tells c protected s m i = tt
 -- a protected page is there
 pub is_there : (pages : PageStates) (p : ℕ) → is_protected pages p ≡ true → p < length pages.dirty
 is_there pages p e = ⊎_elim (λ lt. lt) (λ ge. let d : not (get_or pages.dirty p true) ≡ not true = ap not (get_or_past pages.dirty p true ge) in absurd (let f : true ≡ false = sym e ∙ d in cc)) (cases_lt p (length pages.dirty))
+
+-- an instruction that took a tick was Tick
+pub ticked_at : (c : CodeView) (protected : ℕ → Bool) (s : State) (m : List ℕ) (o : Option Instr) → (row_at c protected s m o).event ≡ Ticked → o ≡ Some Tick
+ticked_at c protected s m None e = absurd (let f : Ran ≡ Ticked = e in cc)
+ticked_at c protected s m (Some i) e = ap Some (subst (Tells protected i) e (row_tells c protected s m i))
+
+-- Tick takes a tick
+pub tick_ticks : (c : CodeView) (protected : ℕ → Bool) (s : State) (m : List ℕ) (o : Option Instr) → o ≡ Some Tick → (row_at c protected s m o).event ≡ Ticked
+tick_ticks c protected s m o e = ap (λ o. (row_at c protected s m o).event) e

@@ -6,5 +6,9 @@ pub mod Standing
 pub mod Fitting
 -- how far a machine is from its next tick
 pub mod Rank
+-- what a run of instructions shows
+pub mod RunOn
+-- what one instruction did
+pub mod Stepped
 -- what an instruction asks of the machine
 pub mod Ready

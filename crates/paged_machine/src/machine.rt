@@ -1,9 +1,9 @@
 // One instruction at a time.
 
-ghost use Rattle.std.specs.Prelude.{◌≡◌, ℕ, ◌↔◌, List, Bool, true, false, Some, ◌+◌, ◌-◌, ◌*◌, ◌/◌, ◌^◌, ◌<◌, ◌≤◌, ◌∷◌, ◌++◌, [], length, slice_index, slice_get, slice_set, cond, IsTrue, IfOk, Result};
+ghost use Rattle.std.specs.Prelude.{◌≡◌, ℕ, ◌↔◌, List, Bool, true, false, Some, None, max, ◌+◌, ◌-◌, ◌*◌, ◌/◌, ◌^◌, ◌<◌, ◌≤◌, ◌∷◌, ◌++◌, [], length, slice_index, slice_get, slice_set, cond, IsTrue, IfOk, IfSome, IsNone, ◌⊎◌, Result};
 ghost use Rattle.std.specs.List.{All};
 ghost use Rattle.ckpt_base.specs.Trap.{trap_number};
-ghost use Rattle.ckpt_base.specs.Word.{word_of, word_holds};
+ghost use Rattle.ckpt_base.specs.Word.{signed, word_of, word_holds, truth_word};
 ghost use Rattle.dirty_pages.specs.Pages.{is_protected};
 ghost use Rattle.machine_code.specs.declared.instr.Instr.{Instr};
 ghost use Rattle.machine_code.specs.declared.event.Event.{Event};
@@ -18,6 +18,9 @@ ghost use Rattle.paged_machine.specs.Standing.{StandsIn, StandsBy};
 ghost use Rattle.paged_machine.specs.Fitting.{FitTogether};
 ghost use Rattle.paged_machine.specs.Rank.{Nearer, Falls, rank, rank_limit};
 ghost use Rattle.paged_machine.specs.Ready.{Ready, CallFits, IsCell};
+ghost use Rattle.paged_machine.specs.RunOn as spec;
+ghost use Rattle.paged_machine.specs.Stepped.{Stepped, DoneBy};
+ghost use Rattle.paged_machine.specs.RunOn.{Answers, GoesOn, ticks_of, live_behind};
 
 use crate::pointer::{cell, moved, moved_back};
 use crate::stack::{Locals, Stack};
@@ -126,8 +129,45 @@ impl Machine {
         ensures fault { (p : ℕ) → result ≡ Event.WriteFault p → (p < length pages.now.dirty) × (is_protected pages.now p ≡ true) }
         ensures falls { Falls code.now self.old.state result self.new.state }
         ensures limited { rank code.now self.new.state ≤ rank_limit code.now }
+        ensures ticked { self.new.state.ticks ≡ self.old.state.ticks + ticks_of result }
     {
-        self.act(code, frames, pages, steps)
+        if let Some(event) = self.turn(code, frames, pages, u64::MAX, steps) {
+            return event;
+        }
+        Event::Ran
+    }
+
+    /// Does instructions one after another, until one answers something else than `Ran` or `Ticked`: that is the answer. None comes exactly where
+    /// the next instruction would take a tick and `until` were taken already.
+    ///
+    /// It is the run of `step`s, and faster: nothing is tested between two instructions.
+    #[inline(always)]
+    pub fn run_on<L: Ledger>(
+        &mut self,
+        code: &Code,
+        frames: &mut Frames,
+        pages: &Pages,
+        until: u64,
+        steps: &mut Steps<L>,
+    ) -> Option<Event>
+        requires live { self.old.live ≡ true }
+        requires stands { StandsIn code.now self.old }
+        requires fit { FitTogether code.now frames.old pages.now }
+        ensures live { self.new.live ≡ live_behind result }
+        ensures stands { StandsIn code.now self.new }
+        ensures size { length frames.new ≡ length frames.old }
+        ensures spared { (cell : ℕ) → is_protected pages.now (cell / 512) ≡ true → slice_index frames.new cell ≡ slice_index frames.old cell }
+        ensures steps { steps.new + self.old.state.ticks ≡ steps.old + self.new.state.ticks }
+        ensures within { self.new.state.ticks ≤ max self.old.state.ticks until }
+        ensures stopped { result ≡ None → (slice_get code.now.instrs self.new.state.place ≡ Some Instr.Tick) × (until ≤ self.new.state.ticks) }
+        ensures goes { GoesOn code.now (is_protected pages.now) self.old.state frames.old result self.new.state frames.new }
+        ensures answer { Answers code.now pages.now self.new.state result }
+    {
+        let mut last = Some(Event::Ran);
+        'turns: while goes_on(last) {
+            last = self.turn(code, frames, pages, until, steps);
+        }
+        last
     }
 
     /// Answers a `WantsInput` with a value, and goes on.
@@ -171,67 +211,103 @@ impl Machine {
 }
 
 impl Machine {
+    /// Does the next instruction, but a tick past `until`: then the answer is None.
+    #[inline(always)]
+    fn turn<L: Ledger>(
+        &mut self,
+        code: &Code,
+        frames: &mut Frames,
+        pages: &Pages,
+        until: u64,
+        steps: &mut Steps<L>,
+    ) -> Option<Event>
+        requires live { self.old.live ≡ true }
+        requires stands { StandsIn code.now self.old }
+        requires fit { FitTogether code.now frames.old pages.now }
+        ensures did { IfSome result (λ event. Stepped code.now pages.now self.old frames.old event self.new frames.new) }
+        ensures steps { steps.new + self.old.state.ticks ≡ steps.old + self.new.state.ticks }
+        ensures below { IfSome result (λ _. slice_get code.now.instrs self.old.state.place ≡ Some Instr.Tick → self.old.state.ticks < until) }
+        ensures stopped { IsNone result → (slice_get code.now.instrs self.old.state.place ≡ Some Instr.Tick) × (until ≤ self.old.state.ticks) × (self.new ≡ self.old) × (frames.new ≡ frames.old) }
+    {
+        self.act(code, frames, pages, until, steps)
+    }
+
+    /// Does the next instruction, but a tick past `until`: then the answer is None, and nothing has changed.
     #[inline(always)]
     fn act<L: Ledger>(
         &mut self,
         code: &Code,
         frames: &mut Frames,
         pages: &Pages,
+        until: u64,
         steps: &mut Steps<L>,
-    ) -> Event
+    ) -> Option<Event>
         requires ready { (i : Instr) × Ready code.now self.old (length frames.old) i }
-        requires pages { length frames.old ≡ 512 * length pages.now.dirty }
-        requires few { length frames.old ≤ 2 ^ 32 }
-        requires ticks { slice_get code.now.instrs self.old.state.place ≡ Some Instr.Tick → self.old.state.ticks < 2 ^ 64 - 1 }
-        ensures machine { (i : Instr) → slice_get code.now.instrs self.old.state.place ≡ Some i → self.new ≡ after_done self.old (row code.now (is_protected pages.now) self.old.state frames.old i) }
-        ensures memory { (i : Instr) → slice_get code.now.instrs self.old.state.place ≡ Some i → frames.new ≡ (row code.now (is_protected pages.now) self.old.state frames.old i).memory }
-        ensures event { (i : Instr) → slice_get code.now.instrs self.old.state.place ≡ Some i → result ≡ (row code.now (is_protected pages.now) self.old.state frames.old i).event }
+        requires fit { FitTogether code.now frames.old pages.now }
+        ensures row { IfSome result (λ e. (i : Instr) → slice_get code.now.instrs self.old.state.place ≡ Some i → DoneBy (row code.now (is_protected pages.now) self.old.state frames.old i) self.old self.new frames.new e) }
         ensures steps { steps.new + self.old.state.ticks ≡ steps.old + self.new.state.ticks }
+        ensures below { IfSome result (λ _. slice_get code.now.instrs self.old.state.place ≡ Some Instr.Tick → self.old.state.ticks < until) }
+        ensures stopped { IsNone result → (slice_get code.now.instrs self.old.state.place ≡ Some Instr.Tick) × (until ≤ self.old.state.ticks) × (self.new ≡ self.old) × (frames.new ≡ frames.old) }
     {
         match next(code, self, frames) {
-            Instr::Tick => self.tick(steps),
-            Instr::Num(n) => self.push(word::word_of(n)),
-            Instr::Addr(o) => self.push((o as u64 + 1) * 0x1_0000_0000),
-            Instr::LoadC(c) => self.push(frames.word(c)),
-            Instr::StoreC(c) => self.store(frames, pages, 1, c),
-            Instr::LoadL(i) => self.load_local(i),
-            Instr::StoreL(i) => self.store_local(i),
-            Instr::Move => self.answer(2, moved(code, self.word(1), self.word(0))),
-            Instr::Back => self.answer(2, moved_back(code, self.word(1), self.word(0))),
-            Instr::Fetch => self.fetch(frames, cell(code, self.word(0))),
-            Instr::Put => self.put(frames, pages, cell(code, self.word(1))),
-            Instr::Add => self.replace(2, word::sum(self.word(1), self.word(0))),
-            Instr::Sub => self.replace(2, word::difference(self.word(1), self.word(0))),
-            Instr::Mul => self.replace(2, word::product(self.word(1), self.word(0))),
-            Instr::Div => self.answer(2, word::quotient(self.word(1), self.word(0))),
-            Instr::Rem => self.answer(2, word::remainder(self.word(1), self.word(0))),
-            Instr::Shl => self.answer(2, word::left_shift(self.word(1), self.word(0))),
-            Instr::Shr => self.answer(2, word::right_shift(self.word(1), self.word(0))),
-            Instr::And => self.replace(2, word::and(self.word(1), self.word(0))),
-            Instr::Or => self.replace(2, word::or(self.word(1), self.word(0))),
-            Instr::Xor => self.replace(2, word::xor(self.word(1), self.word(0))),
-            Instr::Neg => self.replace(1, word::negation(self.word(0))),
-            Instr::Not => self.replace(1, word::truth(!word::holds(self.word(0)))),
-            Instr::Inv => self.replace(1, word::inverse(self.word(0))),
-            Instr::Test => self.replace(1, word::truth(word::holds(self.word(0)))),
-            Instr::Eq => self.replace(2, word::truth(word::is_equal(self.word(1), self.word(0)))),
-            Instr::Ne => self.replace(2, word::truth(!word::is_equal(self.word(1), self.word(0)))),
-            Instr::Lt => self.replace(2, word::truth(word::is_less(self.word(1), self.word(0)))),
-            Instr::Le => self.replace(2, word::truth(word::is_at_most(self.word(1), self.word(0)))),
-            Instr::Gt => self.replace(2, word::truth(word::is_less(self.word(0), self.word(1)))),
-            Instr::Ge => self.replace(2, word::truth(word::is_at_most(self.word(0), self.word(1)))),
-            Instr::Jump(t) => self.jump(t),
-            Instr::JumpZ(t) => self.jump_where_zero(t),
-            Instr::Call(f) => self.call(function(code, f)),
-            Instr::Ret => self.ret(),
-            Instr::Drop => self.spend(1, Event::Ran),
-            Instr::OutC => self.spend(1, Event::Out(word::low_byte(self.word(0)))),
-            Instr::OutB(b) => self.spend(0, Event::Out(b)),
-            Instr::OutN(d) => self.spend(0, Event::OutNumber(word::signed(self.word(d as usize)))),
-            Instr::In => Event::WantsInput,
-            Instr::Ckpt(n) => self.spend(0, Event::Checkpoint(n)),
-            Instr::Excl(k) => self.spend(0, Event::Exclude(k)),
+            Instr::Tick => self.tick_below(until, steps),
+            Instr::Num(n) => Some(self.push(word::word_of(n))),
+            Instr::Addr(o) => Some(self.push((o as u64 + 1) * 0x1_0000_0000)),
+            Instr::LoadC(c) => Some(self.push(frames.word(c))),
+            Instr::StoreC(c) => Some(self.store(frames, pages, 1, c)),
+            Instr::LoadL(i) => Some(self.load_local(i)),
+            Instr::StoreL(i) => Some(self.store_local(i)),
+            Instr::Move => Some(self.answer(2, moved(code, self.word(1), self.word(0)))),
+            Instr::Back => Some(self.answer(2, moved_back(code, self.word(1), self.word(0)))),
+            Instr::Fetch => Some(self.fetch(frames, cell(code, self.word(0)))),
+            Instr::Put => Some(self.put(frames, pages, cell(code, self.word(1)))),
+            Instr::Add => Some(self.replace(2, word::sum(self.word(1), self.word(0)))),
+            Instr::Sub => Some(self.replace(2, word::difference(self.word(1), self.word(0)))),
+            Instr::Mul => Some(self.replace(2, word::product(self.word(1), self.word(0)))),
+            Instr::Div => Some(self.answer(2, word::quotient(self.word(1), self.word(0)))),
+            Instr::Rem => Some(self.answer(2, word::remainder(self.word(1), self.word(0)))),
+            Instr::Shl => Some(self.answer(2, word::left_shift(self.word(1), self.word(0)))),
+            Instr::Shr => Some(self.answer(2, word::right_shift(self.word(1), self.word(0)))),
+            Instr::And => Some(self.replace(2, word::and(self.word(1), self.word(0)))),
+            Instr::Or => Some(self.replace(2, word::or(self.word(1), self.word(0)))),
+            Instr::Xor => Some(self.replace(2, word::xor(self.word(1), self.word(0)))),
+            Instr::Neg => Some(self.replace(1, word::negation(self.word(0)))),
+            Instr::Not => Some(self.replace(1, word::truth(!word::holds(self.word(0))))),
+            Instr::Inv => Some(self.replace(1, word::inverse(self.word(0)))),
+            Instr::Test => Some(self.replace(1, word::truth(word::holds(self.word(0))))),
+            Instr::Eq => Some(self.compare(word::is_equal(self.word(1), self.word(0)))),
+            Instr::Ne => Some(self.compare(!word::is_equal(self.word(1), self.word(0)))),
+            Instr::Lt => Some(self.compare(word::is_less(self.word(1), self.word(0)))),
+            Instr::Le => Some(self.compare(word::is_at_most(self.word(1), self.word(0)))),
+            Instr::Gt => Some(self.compare(word::is_less(self.word(0), self.word(1)))),
+            Instr::Ge => Some(self.compare(word::is_at_most(self.word(0), self.word(1)))),
+            Instr::Jump(t) => Some(self.jump(t)),
+            Instr::JumpZ(t) => Some(self.jump_where_zero(t)),
+            Instr::Call(f) => Some(self.call(function(code, f))),
+            Instr::Ret => Some(self.ret()),
+            Instr::Drop => Some(self.spend(1, Event::Ran)),
+            Instr::OutC => Some(self.spend(1, Event::Out(word::low_byte(self.word(0))))),
+            Instr::OutB(b) => Some(self.spend(0, Event::Out(b))),
+            Instr::OutN(d) => Some(self.spend(0, number_told(self.word(d as usize)))),
+            Instr::In => Some(Event::WantsInput),
+            Instr::Ckpt(n) => Some(self.spend(0, Event::Checkpoint(n))),
+            Instr::Excl(k) => Some(self.spend(0, Event::Exclude(k))),
         }
+    }
+
+    /// Takes a tick, but none past `until`.
+    #[inline(always)]
+    fn tick_below<L: Ledger>(&mut self, until: u64, steps: &mut Steps<L>) -> Option<Event>
+        requires place { self.old.state.place < 2 ^ 63 }
+        ensures machine { IfSome result (λ e. (self.new ≡ at_state self.old (record self.old.state { place = self.old.state.place + 1; ticks = self.old.state.ticks + 1 })) × (e ≡ Event.Ticked)) }
+        ensures steps { steps.new + self.old.state.ticks ≡ steps.old + self.new.state.ticks }
+        ensures below { IfSome result (λ _. self.old.state.ticks < until) }
+        ensures stopped { IsNone result → (until ≤ self.old.state.ticks) × (self.new ≡ self.old) }
+    {
+        if self.ticks >= until {
+            return None;
+        }
+        Some(self.tick(steps))
     }
 
     /// The operand that stands k below the topmost.
@@ -269,6 +345,18 @@ impl Machine {
         self.operands.replace(n, v);
         self.place += 1;
         Event::Ran
+    }
+
+    /// Puts 1 or 0 in the place of the two topmost operands.
+    #[inline(always)]
+    fn compare(&mut self, holds: bool) -> Event
+        requires enough { 2 ≤ length self.old.state.operands }
+        requires room { length self.old.state.operands < self.old.operand_room + 2 }
+        requires place { self.old.state.place < 2 ^ 63 }
+        ensures machine { self.new ≡ at_state self.old (given self.old.state 2 (truth_word holds)) }
+        ensures event { result ≡ Event.Ran }
+    {
+        self.replace(2, word::truth(holds))
     }
 
     #[inline(always)]
@@ -432,6 +520,7 @@ impl Machine {
         self.live = true;
     }
 
+    #[inline(always)]
     fn call(&mut self, f: (u32, u32, u32)) -> Event
         requires enough { parameters f + self.old.state.below ≤ length self.old.state.operands }
         requires place { self.old.state.place < 2 ^ 63 }
@@ -446,6 +535,7 @@ impl Machine {
         Event::Ran
     }
 
+    #[inline(always)]
     fn enter(&mut self, f: (u32, u32, u32))
         requires enough { parameters f ≤ length self.old.state.operands }
         requires place { self.old.state.place < 2 ^ 63 }
@@ -492,6 +582,27 @@ impl Machine {
         self.locals_below = caller.locals_below;
         Event::Ran
     }
+}
+
+/// Whether a run of instructions goes on over an answer.
+#[inline(always)]
+fn goes_on(last: Option<Event>) -> bool
+    ensures on { result ≡ true → (last ≡ Some Event.Ran) ⊎ (last ≡ Some Event.Ticked) }
+    ensures over { result ≡ false → spec.told last ≡ last }
+{
+    match last {
+        Some(Event::Ran) => true,
+        Some(Event::Ticked) => true,
+        _ => false,
+    }
+}
+
+/// The event of a number that is written.
+#[inline(always)]
+fn number_told(v: u64) -> Event
+    ensures { result ≡ Event.OutNumber (signed v) }
+{
+    Event::OutNumber(word::signed(v))
 }
 
 /// The function of a number, which is there.

@@ -1,4 +1,4 @@
-ghost use Rattle.std.specs.Prelude.{◌≡◌, ◌<◌, length, IfOk};
+ghost use Rattle.std.specs.Prelude.{◌≡◌, ◌<◌, length, true, IfOk};
 ghost use Rattle.paged_machine.specs.Standing.{StandsIn};
 ghost use Rattle.paged_machine.specs.Fitting.{FitTogether};
 
@@ -12,7 +12,7 @@ use std::marker::Brand;
 use std::sync::ledger::{Blank, Ledger};
 use std::test::Fail;
 
-/// The first event that is neither `Ran` nor `Ticked`.
+/// The first event that is neither `Ran` nor `Ticked`: by one run as far as three ticks, and from there step by step.
 fn first_event<L: Ledger>(
     code: &Code,
     machine: &mut Machine,
@@ -22,7 +22,11 @@ fn first_event<L: Ledger>(
 ) -> Event
     requires stands { StandsIn code.now machine.old }
     requires fit { FitTogether code.now frames.old pages.now }
+    requires live { machine.old.live ≡ true }
 {
+    if let Some(event) = machine.run_on(code, frames, pages, 3, steps) {
+        return event;
+    }
     for _ in 0..2000 {
         if !machine.is_live() {
             return Event::Trapped(0);

@@ -1,0 +1,59 @@
+-- What a run of instructions shows.
+use Rattle.std.specs.Prelude.{◌≡◌, ℕ, ◌/◌, List, [], ◌∷◌, ◌++◌, length, slice_get, ◌<◌, map, Bool, true, false, Option, Some, None}
+use Rattle.std.specs.List.{All}
+use Rattle.std.specs.Fmt.{signed_decimal}
+use Rattle.ckpt_base.specs.Event as run
+use Rattle.machine_code.specs.declared.event.Event.{Event}
+use Rattle.machine_code.specs.declared.event.Event.TheVariants.{Ran, Ticked, WriteFault, WantsInput, Out, OutNumber, Checkpoint, Exclude, Ended, Trapped}
+use Rattle.machine_code.specs.declared.instr.Instr.TheVariants.{In}
+use Rattle.dirty_pages.specs.Pages.{PageStates, is_protected}
+use Rattle.machine_code.specs.CodeView.{CodeView}
+use Rattle.machine_code.specs.State.{State}
+use Rattle.machine_code.specs.Run.{World, world, Reaches}
+
+-- how many ticks an instruction took that answered this
+abbrev pub ticks_of : Event → ℕ
+ticks_of Ticked = 1
+ticks_of e = 0
+
+-- the answer of a run of instructions that goes on over those that only ran or took a tick
+abbrev pub telling : Event → Option Event
+telling Ran = None
+telling Ticked = None
+telling e = Some e
+
+abbrev pub told : Option Event → Option Event
+told None = None
+told (Some e) = telling e
+
+-- what an answer shows of the run, after so many ticks
+abbrev pub told_by : ℕ → Option Event → List run.Event
+told_by ticks (Some (Out b)) = run.Byte b ∷ []
+told_by ticks (Some (OutNumber v)) = map run.Byte (signed_decimal v)
+told_by ticks (Some (Checkpoint n)) = run.Checkpoint n ticks ∷ []
+told_by ticks (Some (Exclude k)) = run.Excluded k ∷ []
+told_by ticks answer = []
+
+-- stores into cells of pages that are not protected, and nothing else
+abbrev pub AreStores : (ℕ → Bool) → List run.Event → Type 0
+AreStores protected = All (λ e. (cell : ℕ) × (e ≡ run.Wrote cell) × (protected (cell / 512) ≡ false))
+
+-- the run goes on from one standing to another, with stores into pages that are not protected, and then what the answer shows
+pub record GoesOn (c : CodeView) (protected : ℕ → Bool) (s : State) (m : List ℕ) (answer : Option Event) (t : State) (n : List ℕ) : Type 0 where
+  pub stores : List run.Event
+  pub unprotected : AreStores protected stores
+  pub reaches : (w : World) (input : List ℕ) (events : List run.Event) → Reaches c w (world s m input events) → Reaches c w (world t n input (events ++ (stores ++ told_by t.ticks answer)))
+
+-- what holds where a run of instructions answers: it asks for input at In alone, and for a page that is there and protected, and never answers what it goes on over
+abbrev pub Answers : CodeView → PageStates → State → Option Event → Type 0
+Answers c pages t (Some WantsInput) = slice_get c.instrs t.place ≡ Some In
+Answers c pages t (Some (WriteFault p)) = (p < length pages.dirty) × (is_protected pages p ≡ true)
+Answers c pages t (Some Ran) = ⊥
+Answers c pages t (Some Ticked) = ⊥
+Answers c pages t answer = Unit {0}
+
+-- whether a machine that was live still is
+abbrev pub live_behind : Option Event → Bool
+live_behind (Some (Ended v)) = false
+live_behind (Some (Trapped t)) = false
+live_behind answer = true
