@@ -1,10 +1,11 @@
 -- How what a crash may leave goes on from call to call.
-use Rattle.std.proofs.Common.{◌≡◌, ◌≢◌, ◌⊎◌, inl, inr, ⊎_elim, refl, sym, ◌∙◌, ap, subst, ℕ, IsTrue, List, Result, Ok, Err, arith}
+use Rattle.std.proofs.Common.{◌≡◌, ◌≢◌, ◌⊎◌, inl, inr, ⊎_elim, refl, sym, ◌∙◌, ap, subst, ℕ, IsTrue, List, length, Result, Ok, Err, arith}
+use Rattle.std.proofs.lemmas.List.{take_all}
 use Rattle.disk_model.specs.declared.disk_file.DiskFile.{DiskFile}
 use Rattle.disk_model.specs.declared.disk_file.DiskFile.TheVariants.{Output, One, Two}
 use Rattle.disk_model.specs.Store.{Store, file_of, with_file}
-use Rattle.disk_model.specs.Change.{Change, Sync, whole, Crashed}
-use Rattle.disk_model.specs.View.{View, IsDisk, On, IsMade, Changes, Looks, Steady}
+use Rattle.disk_model.specs.Change.{Change, Write, Cut, Sync, Start, whole, Crashed}
+use Rattle.disk_model.specs.View.{View, IsDisk, On, IsMade, Changes, Looks, SameFile, Steady}
 use Rattle.disk_model.specs.Moments.{Among, LeavesOnly}
 
 pub file_of-with_file : (f : DiskFile) (bytes : List ℕ) (s : Store) → file_of f (with_file f bytes s) ≡ bytes
@@ -173,3 +174,40 @@ pub synced_leaves : (f : DiskFile) (old new : View) → IsMade f Sync old new �
 synced_leaves f old new made c left =
     let from = (made.crash c).0 left in
     ap (file_of f) from.2.2 ∙ file_of-with_file f from.2.0 from.0 ∙ from.2.1
+
+-- a crash may make something of each file after a change
+some_outcome : (change : Change) (seen old : List ℕ) → (new : List ℕ) × Crashed change seen old new
+some_outcome (Write at bytes) seen old = (old, record { before = refl; after = refl; no_shorter = omega arith; no_longer = omega arith })
+some_outcome (Cut n) seen old = (old, record { no_shorter = omega arith; front = take_all (length old) old (omega arith) })
+some_outcome Sync seen old = (seen, refl)
+some_outcome (Start header) seen old = (header, refl)
+
+-- A change of one file leaves each other one as it was, whatever it answers.
+pub others_stay : {T E : Type 0} (f g : DiskFile) (change : Change) (result : Result T E) (old new : View) → f ≢ g → IsTrue old.tells → Changes f change result old new → SameFile g old new
+others_stay f g change (Ok x) old new apart tells call =
+    let made = call.does tells in
+    record {
+      seen = ap (file_of g) made.seen ∙ other_file f g (whole change (file_of f old.seen)) old.seen apart;
+      only = λ c left. let from = (made.crash c).0 left in (from.0, from.1, ap (file_of g) from.2.2 ∙ other_file f g from.2.0 from.0 apart);
+      still = λ c left.
+          let out = some_outcome change (file_of f old.seen) (file_of f c) in
+          (with_file f out.0 c, (made.crash (with_file f out.0 c)).1 (c, left, (out.0, out.1, refl)), other_file f g out.0 c apart);
+    }
+others_stay f g change (Err e) old new apart tells call =
+    let part = call.does tells in
+    record {
+      seen = ⊎_elim (λ same. ap (file_of g) same) (λ on. ap (file_of g) on.2 ∙ other_file f g on.0 old.seen apart) part.seen;
+      only = λ c left. ⊎_elim (λ was. (c, was, refl)) (λ from. (from.0, from.1, ap (file_of g) from.2.2 ∙ other_file f g from.2.0 from.0 apart)) (part.crash c left);
+      still = λ c left. let kept = part.others c left in (with_file f kept.0 c, kept.1, other_file f g kept.0 c apart);
+    }
+
+-- a look leaves each file as it was
+pub look_stays : {T E : Type 0} (g : DiskFile) (result : Result T E) (old new : View) → IsTrue old.tells → Looks result old new → SameFile g old new
+look_stays g result old new tells call = record { seen = ap (file_of g) (call.seen tells); only = λ c left. (c, (call.crash tells c).0 left, refl); still = λ c left. (c, (call.crash tells c).1 left, refl) }
+
+pub stays_twice : (g : DiskFile) (a b c : View) → SameFile g a b → SameFile g b c → SameFile g a c
+stays_twice g a b c first second = record {
+  seen = second.seen ∙ first.seen;
+  only = λ s left. let x = second.only s left in let y = first.only x.0 x.1 in (y.0, y.1, x.2 ∙ y.2);
+  still = λ s left. let x = first.still s left in let y = second.still x.0 x.1 in (y.0, y.1, y.2 ∙ x.2);
+}

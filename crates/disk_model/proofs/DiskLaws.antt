@@ -13,6 +13,10 @@ use Rattle.disk_model.specs.MemoryDisk.{Files, state_of, bytes_of, reads_of, wit
 use Rattle.disk_model.proofs.Calls.{with_file-same}
 use Rattle.disk_model.proofs.Outcomes.{write_becomes, write_file, cut_becomes, cut_file, settled_only, settled_file, seen_left, cases_lt, crashed_left, length-patch}
 
+-- an outcome is one that is the same but for a file
+same_others : (f : DiskFile) (v : View) (c : Store) → v.may_leave c → (bytes : List ℕ) × v.may_leave (with_file f bytes c)
+same_others f v c left = (file_of f c, subst v.may_leave (sym (with_file-same f c)) left)
+
 -- one change of one file, both ways
 pub file_becomes : (s : FileState) (change : Change) (c : List ℕ) → IsFile s → IsTaken change s → MayLeave (changed change s) c ↔ ((d : List ℕ) × MayLeave s d × Crashed change s.seen d c)
 file_becomes s (Write at bytes) c is taken = write_becomes s is at bytes taken.0 c
@@ -180,6 +184,9 @@ module _ (m0 : MemoryDisk) (f : DiskFile) (change : Change) (faults : ℕ) (even
       back (inl (inr was)) = let b = was.earlier in inr (record { k = was.k; since = was.since; earlier = omega (arith, b, size); left = subst (λ (x : Files). AllLeft x c) (sym (same_front was.k (omega (arith, b)))) was.left })
       back (inr now) = inl now
 
+  stays : IsPlain change → (c : Store) → (view_of m).may_leave c → (view_of new).may_leave c
+  stays plain c left = (is_made.crash c).1 (c, left, (file_of f c, not_at_all change (file_of f (bytes_of m.files)) (file_of f c) plain, sym (with_file-same f c)))
+
   -- A call that makes its change and answers Ok.
   pub made_law : {T E : Type 0} (x : T) → faults ≡ m.faults → Changes {E = E} f change (Ok x) (view_of m) (view_of new)
   made_law x same = record {
@@ -200,19 +207,20 @@ module _ (m0 : MemoryDisk) (f : DiskFile) (change : Change) (faults : ℕ) (even
     does = λ _. record {
       seen = inr (whole change (file_of f (bytes_of m.files)), subst (λ (x : List ℕ). Crashed change x x (whole change x)) (sym (file_seen f m.files)) (wholly change (state_of f m.files) plain taken), all_whole f change m.files);
       crash = λ c left. inr ((is_made.crash c).0 left);
-      kept = λ _ c left. (is_made.crash c).1 (c, left, (file_of f c, not_at_all change (file_of f (bytes_of m.files)) (file_of f c) plain, sym (with_file-same f c)));
+      kept = λ _ c left. stays plain c left;
+      others = λ c left. same_others f (view_of new) c (stays plain c left);
     };
     later = λ keeps. omega (arith, ap length (kept keeps), length-append m.events ((f, change) ∷ []));
     past = past;
   }
 
 -- A call that is refused changes nothing but the counts.
-refused_law : {T E : Type 0} (m : MemoryDisk) (f : DiskFile) (change : Change) (e : E) → m.faults ≤ counted m.faults → Changes {T = T} f change (Err e) (view_of m) (view_of (after_change_call true m))
+pub refused_law : {T E : Type 0} (m : MemoryDisk) (f : DiskFile) (change : Change) (e : E) → m.faults ≤ counted m.faults → Changes {T = T} f change (Err e) (view_of m) (view_of (after_change_call true m))
 refused_law m f change e rises = record {
   tells = refl;
   tells_past = refl;
   counts = (omega arith, rises);
-  does = λ _. record { seen = inl refl; crash = λ c left. inl left; kept = λ _ c left. left };
+  does = λ _. record { seen = inl refl; crash = λ c left. inl left; kept = λ _ c left. left; others = λ c left. same_others f (view_of m) c left };
   later = λ _. omega arith;
   past = λ _ t c le. (λ left. inl left, λ from. ⊎_elim (λ was. was) (λ now. inl now) from);
 }
@@ -272,7 +280,12 @@ pending_law m0 f header e are rises = record {
   tells = refl;
   tells_past = refl;
   counts = (omega arith, rises);
-  does = λ _. record { seen = inr (header, refl, refl); crash = λ c left. crash c left (left f); kept = λ _ c left g. still_kept f g header files c are (left g) };
+  does = λ _. record {
+    seen = inr (header, refl, refl);
+    crash = λ c left. crash c left (left f);
+    kept = λ _ c left. kept c left;
+    others = λ c left. same_others f (view_of (record (after_change_call true (settled_disk m0)) { pending = Some (f, header) })) c (kept c left);
+  };
   later = λ _. omega arith;
   past = λ _ t c le. (forth t c, back t c);
 }
@@ -285,6 +298,9 @@ pending_law m0 f header e are rises = record {
 
     New : Store → Type 0
     New c = may_leave_now (with_file f header (bytes_of files)) files c
+
+    kept : (c : Store) → Old c → New c
+    kept c left g = still_kept f g header files c are (left g)
 
     crash : (c : Store) → New c → Kept (with_file f header (bytes_of files)) files f c → Old c ⊎ ((d : Store) × Old d × On f (λ _ x. x ≡ header) d c)
     crash c left (inl same) = inr (with_file f (file_of f (bytes_of files)) c, λ g. without f g header files c (left g), (file_of f c, same ∙ same_file f header (bytes_of files), put_back f (file_of f (bytes_of files)) c))

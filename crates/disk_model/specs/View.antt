@@ -46,11 +46,12 @@ pub record IsMade (file : DiskFile) (change : Change) (old new : View) : Type 0 
   pub seen : new.seen ≡ with_file file (whole change (file_of file old.seen)) old.seen
   pub crash : Becomes (On file (Crashed change (file_of file old.seen))) old.may_leave new.may_leave
 
--- It failed: the change is pending in part, or not at all. What a crash might have left stays possible, but where the file was being synced.
+-- It failed: the change is pending in part, or not at all. What a crash might have left stays possible; where the file was being synced, what it might have left of the other two.
 pub record IsPartlyMade (file : DiskFile) (change : Change) (old new : View) : Type 0 where
   pub seen : (new.seen ≡ old.seen) ⊎ On file (Crashed change (file_of file old.seen)) old.seen new.seen
   pub crash : (c : Store) → new.may_leave c → old.may_leave c ⊎ ((d : Store) × old.may_leave d × On file (Crashed change (file_of file old.seen)) d c)
   pub kept : IsNoSync change → (c : Store) → old.may_leave c → new.may_leave c
+  pub others : (c : Store) → old.may_leave c → (bytes : List ℕ) × new.may_leave (with_file file bytes c)
 
 -- A call that changes one file. The past is what it was, and what a crash may leave now.
 pub record Changes {T E : Type 0} (file : DiskFile) (change : Change) (result : Result T E) (old new : View) : Type 0 where
@@ -65,6 +66,12 @@ pub record Changes {T E : Type 0} (file : DiskFile) (change : Change) (result : 
 pub record OnlySyncs (old new : View) : Type 0 where
   pub seen : new.seen ≡ old.seen
   pub crash : (c : Store) → new.may_leave c → old.may_leave c
+
+-- A file is as it was: as reads give it, and as a crash may leave it.
+pub record SameFile (file : DiskFile) (old new : View) : Type 0 where
+  pub seen : file_of file new.seen ≡ file_of file old.seen
+  pub only : (c : Store) → new.may_leave c → (d : Store) × old.may_leave d × (file_of file c ≡ file_of file d)
+  pub still : (c : Store) → old.may_leave c → (d : Store) × new.may_leave d × (file_of file d ≡ file_of file c)
 
 -- n bytes of the file from a place on were put to the front of the buffer: as many as it holds, or as are left
 pub record Takes (at : ℕ) (file old : List ℕ) (n : ℕ) (new : List ℕ) : Type 0 where

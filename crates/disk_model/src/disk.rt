@@ -8,7 +8,8 @@ use ckpt_base::{Failed, Text};
 
 /// The disk of a store: three files, which a crash may leave otherwise than reads give them.
 ///
-/// Each call answers `Failed` only where it counts a fault. A change that failed is pending in part, or not at all.
+/// Each call answers `Failed` only where it counts a fault. A change that failed is pending in part, or not at all. Whatever it answers,
+/// a call on one file leaves the other two as reads give them and as a crash may leave them.
 pub trait Disk {
     /// What is told of the disk, and how often it has failed.
     ghost view: { Self → View };

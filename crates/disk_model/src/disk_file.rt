@@ -28,6 +28,12 @@ impl DiskFile {
 }
 
 impl fmt::Display for DiskFile {
+    ghost use Rattle.std.specs.Prelude.{Some};
+    ghost use Rattle.std.specs.Fmt.{decimal};
+    ghost use Rattle.disk_model.specs.Store.{number_of};
+
+    ghost output = { λ f. Some (decimal (number_of f)) };
+
     fn fmt<W: fmt::Write>(&self, f: &mut fmt::Formatter<W>) -> fmt::Result {
         write!(f, "{}", self.number())
     }
