@@ -1,4 +1,4 @@
-ghost use Rattle.std.specs.Prelude.{◌≡◌, ◌≢◌, ◌≤◌, ◌+◌, ◌^◌, is_some, length, false, IfOk, OnOk, IsTrue};
+ghost use Rattle.std.specs.Prelude.{◌≡◌, ◌≢◌, ◌≤◌, ◌+◌, ◌^◌, is_ok, is_some, length, false, IfOk, OnOk, IsTrue};
 ghost use Rattle.disk_model.specs.Store.{file_of};
 ghost use Rattle.disk_model.specs.Change.{Write, Cut, Sync, Start};
 ghost use Rattle.disk_model.specs.View.{Looks, Changes, OnlySyncs, IsRefused, Takes};
@@ -24,7 +24,10 @@ pub struct DirDisk {
 
 impl DirDisk {
     /// No store is entered.
-    pub fn new(rt: HostRuntime) -> DirDisk {
+    pub fn new(rt: HostRuntime) -> DirDisk
+        ensures none { is_some result.store ≡ false }
+        ensures faults { result.faults ≡ 0 }
+    {
         DirDisk {
             rt,
             store: None,
@@ -78,6 +81,7 @@ fn write_store(
     bytes: &[u8],
 ) -> io::Result<()>
     ensures err { is_some store.old ≡ false → OnOk result ⊥ }
+    ensures same { is_some store.new ≡ is_some store.old }
     ensures past { 2 ^ 64 ≤ at + length bytes.now → OnOk result ⊥ }
 {
     if at > u64::MAX - bytes.len() as u64 {
@@ -96,6 +100,7 @@ fn start_in_store(
     header: &[u8; 16],
 ) -> io::Result<()>
     ensures err { is_some store.old ≡ false → OnOk result ⊥ }
+    ensures same { is_some store.new ≡ is_some store.old }
 {
     match store {
         Some(store) => store.start_file(rt, file, header),
@@ -132,7 +137,7 @@ impl Disk for DirDisk {
 
     fn enter(&mut self, name: &Text) -> Result<(), Failed>
         ensures same { Looks result (untold_disk self.old.faults) (untold_disk self.new.faults) }
-        ensures entered { IfOk result (λ _. IsTrue (is_some self.new.store)) }
+        ensures entered { is_some self.new.store ≡ is_ok result }
     {
         self.store = None;
         let opened = self.open_store(name);
@@ -144,6 +149,7 @@ impl Disk for DirDisk {
         ensures answer { IfOk result (λ n. IsTrue false → n ≡ length (file_of file (untold_disk self.old.faults).seen)) }
         ensures same { Looks result (untold_disk self.old.faults) (untold_disk self.new.faults) }
         ensures err { is_some self.old.store ≡ false → OnOk result ⊥ }
+        ensures same_store { is_some self.new.store ≡ is_some self.old.store }
     {
         let answer = length_in_store(&self.store, file);
         counted(answer, &mut self.faults)
@@ -153,6 +159,7 @@ impl Disk for DirDisk {
         ensures answer { IfOk result (λ n. (n ≤ length buf.old) × (IsTrue false → Takes at (file_of file (untold_disk self.old.faults).seen) buf.old n buf.new)) }
         ensures same { Looks result (untold_disk self.old.faults) (untold_disk self.new.faults) }
         ensures err { is_some self.old.store ≡ false → OnOk result ⊥ }
+        ensures same_store { is_some self.new.store ≡ is_some self.old.store }
     {
         let answer = read_store(&self.store, file, at, buf);
         counted(answer, &mut self.faults)
@@ -162,6 +169,7 @@ impl Disk for DirDisk {
         ensures answer { Changes file (Write at bytes.now) result (untold_disk self.old.faults) (untold_disk self.new.faults) }
         ensures past { 2 ^ 64 ≤ at + length bytes.now → IsRefused result (untold_disk self.old.faults) (untold_disk self.new.faults) }
         ensures err { is_some self.old.store ≡ false → OnOk result ⊥ }
+        ensures same_store { is_some self.new.store ≡ is_some self.old.store }
     {
         let answer = write_store(&self.rt, &mut self.store, file, at, bytes);
         counted(answer, &mut self.faults)
@@ -170,6 +178,7 @@ impl Disk for DirDisk {
     fn cut(&mut self, file: DiskFile, len: u64) -> Result<(), Failed>
         ensures answer { Changes file (Cut len) result (untold_disk self.old.faults) (untold_disk self.new.faults) }
         ensures err { is_some self.old.store ≡ false → OnOk result ⊥ }
+        ensures same_store { is_some self.new.store ≡ is_some self.old.store }
     {
         let answer = cut_in_store(&self.store, file, len);
         counted(answer, &mut self.faults)
@@ -179,6 +188,7 @@ impl Disk for DirDisk {
         ensures answer { Changes file Sync result (untold_disk self.old.faults) (untold_disk self.new.faults) }
         ensures only { IsTrue false → OnlySyncs (untold_disk self.old.faults) (untold_disk self.new.faults) }
         ensures err { is_some self.old.store ≡ false → OnOk result ⊥ }
+        ensures same_store { is_some self.new.store ≡ is_some self.old.store }
     {
         let answer = sync_in_store(&self.store, file);
         counted(answer, &mut self.faults)
@@ -188,6 +198,7 @@ impl Disk for DirDisk {
         requires image { file ≢ DiskFile.Output }
         ensures answer { Changes file (Start header.now) result (untold_disk self.old.faults) (untold_disk self.new.faults) }
         ensures err { is_some self.old.store ≡ false → OnOk result ⊥ }
+        ensures same_store { is_some self.new.store ≡ is_some self.old.store }
     {
         let answer = start_in_store(&self.rt, &mut self.store, file, header);
         counted(answer, &mut self.faults)

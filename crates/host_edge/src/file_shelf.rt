@@ -1,4 +1,4 @@
-ghost use Rattle.std.specs.Prelude.{◌≡◌, ◌≤◌, is_some, length, IfOk};
+ghost use Rattle.std.specs.Prelude.{◌≡◌, ◌≤◌, is_some, length, false, IfOk};
 ghost use Rattle.host_edge.specs.Untold.{untold_shelf};
 
 use crate::counted::counted;
@@ -16,7 +16,10 @@ pub struct FileShelf {
 
 impl FileShelf {
     /// No file is open.
-    pub fn new(rt: HostRuntime) -> FileShelf {
+    pub fn new(rt: HostRuntime) -> FileShelf
+        ensures none { is_some result.file ≡ false }
+        ensures faults { result.faults ≡ 0 }
+    {
         FileShelf {
             rt,
             file: None,

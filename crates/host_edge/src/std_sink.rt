@@ -1,4 +1,4 @@
-ghost use Rattle.std.specs.Prelude.{◌≤◌, length, IfOk};
+ghost use Rattle.std.specs.Prelude.{◌≡◌, ◌≤◌, length, IfOk};
 
 use crate::counted::counted;
 use ckpt_base::{Failed, Sink};
@@ -13,7 +13,9 @@ pub struct StdSink {
 
 impl StdSink {
     /// Nothing has failed.
-    pub fn new(out: Stdout) -> StdSink {
+    pub fn new(out: Stdout) -> StdSink
+        ensures faults { result.faults ≡ 0 }
+    {
         StdSink { out, faults: 0 }
     }
 }
