@@ -5,8 +5,8 @@ use Rattle.image_format.specs.Image.{AreWords}
 use Rattle.image_format.proofs.write.write_words.Given as goal
 
 abbrev pub invariant-loop-i : goal.invariant-loop-i
-invariant-loop-i l = record {
-  list : l.out.list ≡ l.fn.out.list ++ flat_map (to_be_bytes w64) (take l.i (drop l.first l.words));
+invariant-loop-i g l = record {
+  list : l.out.list ≡ l.fn.out.list ++ flat_map (to_be_bytes w64) (take l.i (drop l.first (g.W.Words.words l.words)));
   spare : l.out.spare + 8 * l.i ≡ l.fn.out.spare;
-  words : AreWords (take l.i (drop l.first l.words));
+  words : AreWords (take l.i (drop l.first (g.W.Words.words l.words)));
 }
