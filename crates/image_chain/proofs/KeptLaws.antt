@@ -118,3 +118,11 @@ memory_push (s ∷ rs) r c = ap (λ (o : Option ℕ). option_or o (word_in_runs 
     grouped : (a b d : Option ℕ) → option_or (option_or a b) d ≡ option_or a (option_or b d)
     grouped None b d = refl
     grouped (Some x) b d = refl
+
+-- ---- past the end
+
+-- no cell past the end is listed
+pub none_past : (words : List ℕ) (listed : List Bool) (n c : ℕ) → length listed ≡ n → n ≤ c → kept_word (joined words listed) c ≡ None
+none_past words listed n c size past =
+    let none : slice_index_or listed c false ≡ false = get_or_past listed c false (omega (arith, size)) in
+    ap (λ (b : Bool). cond b (Some (slice_index words c)) None) none

@@ -2,10 +2,16 @@
 pub mod ListLaws
 -- what each step of an append leaves
 pub mod StepLaws
+-- the output file stays as it was
+pub mod OutputLaws
 -- an append goes on from step to step
 pub mod LoopLaws
 -- a chain that begins, and one that is settled
 pub mod StartLaws
+-- what a chain keeps of its file stays sound
+pub mod SoundLaws
+-- what each call of a joining leaves
+pub mod ReplaceLaws
 -- the joined content of records
 pub mod KeptLaws
 -- looking at the files of a store

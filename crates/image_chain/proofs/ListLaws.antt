@@ -17,7 +17,8 @@ use Rattle.image_format.proofs.ViewLaws.{image_only}
 use Rattle.image_format.proofs.HeaderLaws.{header_only}
 use Rattle.image_chain.specs.declared.chain.Current.{Current}
 use Rattle.image_chain.specs.Records.{Damage, header_in, only_open, newer, broken_field, in_order, located, record_in, records_at, newest_of, in_number, found_in, chain_in}
-use Rattle.image_chain.specs.Append.{header_of, head, chained, AreInOrder, IsNumbered, Keeps, front, other, IsAside}
+use Rattle.image_chain.specs.Append.{header_of, head, chained, AreInOrder, Keeps, front, other, IsAside}
+use Rattle.image_chain.specs.Sound.{IsNumbered}
 use Rattle.image_chain.specs.Lists.{found_of, Lists}
 
 -- ---- one record
@@ -40,7 +41,7 @@ pub next_gate : (rs : List Image) (gate : ℕ) (behind : List ℕ) → (b : ℕ)
 next_gate [] gate behind = (gate, behind, refl)
 next_gate (r ∷ rs) gate behind = (165, (text r ++ chained rs) ++ gate ∷ behind, refl)
 
-shut : (gate : ℕ) → gate ≢ 165 → is_open gate ≡ false
+pub shut : (gate : ℕ) → gate ≢ 165 → is_open gate ≡ false
 shut gate closed = grind (arith, nat_tests)
 
 -- the record behind an open gate

@@ -4,9 +4,10 @@ use Rattle.std.proofs.lemmas.Bool.{cases_lt}
 use Rattle.std.proofs.lemmas.Bool.Decides.{nat_tests}
 use Rattle.ckpt_base.specs.declared.errors.Failed.{Failed}
 use Rattle.disk_model.specs.Store.{Store}
-use Rattle.disk_model.specs.View.{View, IsDisk}
+use Rattle.disk_model.specs.declared.disk_file.DiskFile.TheVariants.{Output}
+use Rattle.disk_model.specs.View.{View, IsDisk, SameFile}
 use Rattle.disk_model.specs.Moments.{Among, LeavesOnly}
-use Rattle.disk_model.proofs.Calls.{still, joined}
+use Rattle.disk_model.proofs.Calls.{still, joined, stays_twice}
 use Rattle.image_format.specs.Image.{Image}
 use Rattle.image_chain.specs.declared.chain.Current.{Current}
 use Rattle.image_chain.specs.declared.chain.Step.{Step}
@@ -14,6 +15,7 @@ use Rattle.image_chain.specs.declared.chain.Step.TheVariants.{Piece, SyncRecord,
 use Rattle.image_chain.specs.Append.{front, IsAtRest, IsDue, Stands, Spells, IsInside, IsInsideOrDone, SameCurrent, TakesOver, IfLast, next_of, due_after, left_to_do}
 use Rattle.image_chain.specs.Lists.{Lists, IsAppended, IsLeftIn, Makes, SoFar}
 use Rattle.image_chain.proofs.ListLaws.{holds_of, lists_of}
+use Rattle.image_chain.proofs.OutputLaws.{same_output}
 use Rattle.image_chain.proofs.StepLaws.{front_and_gate}
 
 lt-yes : (a b : ℕ) → a < b → nat_lt a b ≡ true
@@ -56,6 +58,7 @@ pub begun : (chain : Current) (v : View) (rs : List Image) (r : Image) (image be
 begun chain v rs r image behind tells disk rest = record {
   due = rest_due chain v rs image behind rest;
   moments = still v (Among v.may_leave (IsAppended chain rs r)) (λ _. disk) (λ _. tells) (λ _ c left. (c, left, (inl (rest_lists chain v rs behind rest c left), refl)));
+  output = same_output v;
 }
 
 pub goes_on : (start chain after : Current) (old mid new : View) (rs : List Image) (r : Image) (image : List ℕ) (at : Step) (result : Result Step Failed) → chain ≡ start → IsTrue old.tells → Spells r image → IsInside at (length image)
@@ -66,6 +69,12 @@ goes_on start chain after old mid new rs r image at result same tells spells ins
     let moments : LeavesOnly mid new (Among mid.may_leave (IsLeftIn at start rs r)) = subst (λ (c : Current). LeavesOnly mid new (Among mid.may_leave (IsLeftIn at c rs r))) same promise.moments in
     joined old mid new (Among old.may_leave (IsAppended start rs r)) (Among mid.may_leave (IsLeftIn at start rs r)) (λ _. tells) so_far.moments moments
     (λ t s from. let was = so_far.moments.now t from.0 from.1 in (was.0, was.1, after_appended at start rs r was.0 from.0 s was.2 from.2))
+
+pub output_goes_on : (start chain after : Current) (old mid new : View) (rs : List Image) (r : Image) (image : List ℕ) (at : Step) (result : Result Step Failed) → IsTrue old.tells → Spells r image → IsInside at (length image)
+    → SoFar start chain r image at old mid rs → Makes chain after image at result mid new → SameFile Output old new
+output_goes_on start chain after old mid new rs r image at result tells spells inside so_far makes =
+    let mid_tells = subst IsTrue (sym so_far.moments.tells) tells in
+    stays_twice Output old mid new so_far.output (makes mid_tells rs r spells (stands_due chain mid rs r image at (length image) inside so_far.due)).output
 
 pub due_next : (chain after : Current) (mid new : View) (rs : List Image) (r : Image) (image : List ℕ) (at next : Step) → IsTrue mid.tells → Spells r image → IsInside at (length image) → Stands chain mid rs r image at → Makes chain after image at (Ok next) mid new → Stands after new rs r image next
 due_next chain after mid new rs r image at next tells spells inside due makes = (makes tells rs r spells (stands_due chain mid rs r image at (length image) inside due)).due

@@ -19,7 +19,8 @@ use Rattle.image_chain.specs.declared.fault.ChainFault.{ChainFault}
 use Rattle.image_chain.specs.declared.fault.ChainFault.TheVariants.{Failed, Damaged}
 use Rattle.image_chain.specs.Records.{Damage, header_in, only_open, newer, records_at, newest_of, in_number, Found, found_in, chain_in}
 use Rattle.image_chain.specs.Memory.{Joined}
-use Rattle.image_chain.specs.Append.{header_of, IsNumbered, other, IsAside}
+use Rattle.image_chain.specs.Append.{header_of, other, IsAside}
+use Rattle.image_chain.specs.Sound.{IsNumbered}
 use Rattle.image_chain.specs.Lists.{found_of, Rests}
 use Rattle.image_chain.specs.Looking.{IsDamage, OnlyLooked}
 use Rattle.image_chain.specs.Walk.{Walked, IsRead, IsReadFrom, IsFound, IsOpened, opened_as}
@@ -47,7 +48,7 @@ ok_test : (b : Bool) (d : Damage) → cond b (bad d) fine ≡ fine → b ≡ fal
 ok_test true d is = absurd cc
 ok_test false d is = refl
 
-not_ahead : (f : DiskFile) (ahead : ℕ) (newest : Fields) → in_number f ahead (Some newest) ≡ Ok tt → ahead ≤ newest.number + 1
+pub not_ahead : (f : DiskFile) (ahead : ℕ) (newest : Fields) → in_number f ahead (Some newest) ≡ Ok tt → ahead ≤ newest.number + 1
 not_ahead f ahead newest is = let t = ok_test (nat_lt (newest.number + 1) ahead) (record { file = f; place = 4 }) is in grind (arith, nat_tests)
 
 numbered : (f : DiskFile) (ahead : ℕ) (rs : List Image) → 1 ≤ length rs → in_number f ahead (newest_of None rs) ≡ Ok tt → IsNumbered ahead (newest_of None rs)

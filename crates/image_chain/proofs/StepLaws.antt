@@ -21,7 +21,8 @@ use Rattle.image_chain.specs.declared.chain.Current.{Current}
 use Rattle.image_chain.specs.declared.chain.Span.{Span}
 use Rattle.image_chain.specs.declared.chain.Step.TheVariants.{Piece, SyncRecord, OpenGate, SyncGate}
 use Rattle.image_chain.specs.Records.{broken_field, newest_of}
-use Rattle.image_chain.specs.Append.{header_of, head, chained, chained_length, spans_of, TakesSpan, AreInOrder, IsNumbered, Keeps, front, other, IsAside, Alone, IsAtRest, Spells, IsDue}
+use Rattle.image_chain.specs.Append.{header_of, head, chained, chained_length, spans_of, TakesSpan, AreInOrder, Keeps, front, other, IsAside, Alone, IsAtRest, Spells, IsDue}
+use Rattle.image_chain.specs.Sound.{IsNumbered}
 use Rattle.image_chain.specs.Lists.{Lists, IsKept, IsAppended}
 use Rattle.image_chain.proofs.ListLaws.{Holds, holds_of, lists_of}
 
@@ -100,7 +101,7 @@ next_number old new is =
     holds true is = refl
     holds false is = absurd cc
 
-number_push : (ahead : ℕ) (newest : Option Fields) (r : Fields) → IsNumbered ahead newest → 1 ≤ r.number → broken_field newest r ≡ None → ahead + 1 ≤ r.number + 1
+pub number_push : (ahead : ℕ) (newest : Option Fields) (r : Fields) → IsNumbered ahead newest → 1 ≤ r.number → broken_field newest r ≡ None → ahead + 1 ≤ r.number + 1
 number_push ahead None r is some follows = omega arith
 number_push ahead (Some old) r is some follows = let next = next_number old r follows in omega arith
 
@@ -145,10 +146,15 @@ front_push chain rs r = ap (λ (l : List ℕ). head (header_of chain) ++ l) (cha
 
 -- ---- stores of which this file was changed
 
-other_is : (f : DiskFile) → f ≢ Output → f ≢ other f
+pub other_is : (f : DiskFile) → f ≢ Output → f ≢ other f
 other_is Output image_file same = image_file refl
 other_is One image_file same = absurd cc
 other_is Two image_file same = absurd cc
+
+pub other_image : (f : DiskFile) → other f ≢ Output
+other_image Output same = absurd cc
+other_image One same = absurd cc
+other_image Two same = absurd cc
 
 output_is : (f : DiskFile) (bytes : List ℕ) (d : Store) → f ≢ Output → (with_file f bytes d).output ≡ d.output
 output_is Output bytes d image_file = absurd (image_file refl)
@@ -170,7 +176,7 @@ store_lists chain rs generation count bytes d s holds image_file is same aside =
     let theirs : file_of (other f) d ≡ file_of (other f) s = sym (ap (file_of (other f)) same ∙ other_file f (other f) bytes d (other_is f image_file)) in
     lists_of chain rs is.gate is.behind s holds image_file is.closed mine (subst (IsAside (other f) chain.generation (length rs)) theirs aside)
 
-store_output : (f : DiskFile) (bytes : List ℕ) (d s : Store) → f ≢ Output → s ≡ with_file f bytes d → s.output ≡ d.output
+pub store_output : (f : DiskFile) (bytes : List ℕ) (d s : Store) → f ≢ Output → s ≡ with_file f bytes d → s.output ≡ d.output
 store_output f bytes d s image_file same = ap (λ (x : Store). x.output) same ∙ output_is f bytes d image_file
 
 -- a file that is aside stays so when the chain has more records

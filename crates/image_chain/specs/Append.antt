@@ -15,10 +15,15 @@ use Rattle.image_chain.specs.declared.chain.Span.{Span}
 use Rattle.image_chain.specs.declared.chain.Step.{Step}
 use Rattle.image_chain.specs.declared.chain.Step.TheVariants.{Piece, SyncRecord, OpenGate, SyncGate, Done}
 use Rattle.image_chain.specs.Records.{header_in, broken_field, newest_of}
+use Rattle.image_chain.specs.Sound.{IsNumbered, IsSound}
 
 -- the header of the file of a chain that has records
 abbrev pub header_of : Current → Header
 header_of chain = record { generation = chain.generation; every = chain.every; max = chain.max; gate_open = true }
+
+-- what a chain keeps of its file is sound
+abbrev pub IsSoundFile : Current → Type 0
+IsSoundFile chain = IsSound chain.generation chain.every chain.max chain.count chain.newest
 
 -- the 15 bytes of a header before its gate
 abbrev pub head : Header → List ℕ
@@ -38,11 +43,6 @@ chained_length (r ∷ rs) = image_length r + chained_length rs
 abbrev pub AreInOrder : Option Fields → List Image → Type 0
 AreInOrder newest [] = Unit {0}
 AreInOrder newest (r ∷ rs) = (broken_field newest r.fields ≡ None) × AreInOrder (Some r.fields) rs
-
--- The number of the newest image is not behind the generation and the count. A chain without records has generation 1.
-abbrev pub IsNumbered : ℕ → Option Fields → Type 0
-IsNumbered ahead None = ahead ≤ 1
-IsNumbered ahead (Some newest) = ahead ≤ newest.number + 1
 
 -- where records stand, the first at this place
 abbrev pub spans_of : ℕ → List Image → List Span

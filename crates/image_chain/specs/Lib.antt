@@ -2,10 +2,14 @@
 pub mod Records
 -- what records give each cell
 pub mod Memory
+-- what a chain keeps of its file, whatever its disk tells
+pub mod Sound
 -- what an append leaves in the file, call by call
 pub mod Append
 -- what a crash leaves of the chain at each moment
 pub mod Lists
+-- what a joining leaves in the other image file, call by call, and of the chain
+pub mod Replace
 -- what a call answers of a store, and what it leaves of the disk
 pub mod Looking
 -- how far the records of a file were read

@@ -2,8 +2,9 @@
 use Rattle.std.specs.Prelude.{◌≡◌, ◌⊎◌, ℕ, ◌+◌, IsTrue, List, [], ◌∷◌, ◌++◌, length, Option, Some, None, Result, Ok, IfOk}
 use Rattle.ckpt_base.specs.declared.errors.Failed.{Failed}
 use Rattle.disk_model.specs.declared.disk_file.DiskFile.{DiskFile}
+use Rattle.disk_model.specs.declared.disk_file.DiskFile.TheVariants.{Output}
 use Rattle.disk_model.specs.Store.{Store, file_of}
-use Rattle.disk_model.specs.View.{View}
+use Rattle.disk_model.specs.View.{View, SameFile}
 use Rattle.disk_model.specs.Moments.{Among, LeavesOnly}
 use Rattle.image_format.specs.declared.header.Header.{Header}
 use Rattle.image_format.specs.Image.{Image}
@@ -52,6 +53,7 @@ pub record Promise (before after : Current) (r : Image) (image : List ℕ) (at :
   pub due : IfOk result (Stands after new rs r image)
   pub reads : IfOk result (λ _. ReadsAfter at before rs r new.seen)
   pub moments : LeavesOnly old new (Among old.may_leave (IsLeftIn at before rs r))
+  pub output : SameFile Output old new
 
 -- the same, where the disk tells, for each list of records behind which the step is due
 abbrev pub Makes : Current → Current → List ℕ → Step → Result Step Failed → View → View → Type 0
@@ -65,6 +67,7 @@ Rests chain v rs = (chain.due ≡ Piece 0) × ((behind : List ℕ) × IsAtRest c
 pub record SoFar (start now : Current) (r : Image) (image : List ℕ) (at : Step) (old new : View) (rs : List Image) : Type 0 where
   pub due : Stands now new rs r image at
   pub moments : LeavesOnly old new (Among old.may_leave (IsAppended start rs r))
+  pub output : SameFile Output old new
 
 -- an earlier outcome, but that no file is current and nothing is damaged
 abbrev pub HasNone : Store → Store → Type 0

@@ -20,10 +20,10 @@ abbrev pub Answers : {X Y : Type 0} → (X → Y) → Result X ChainFault → Re
 Answers view (Ok x) read = read ≡ Ok (view x)
 Answers view (Err e) read = IsDamage e read
 
--- the count rose where the fault is that a call on the disk failed
+-- the count rose where the fault is that a call on the disk failed, and is the same where it is damage
 abbrev pub RoseIfFailed : ChainFault → ℕ → ℕ → Type 0
 RoseIfFailed Failed old new = Rose old new
-RoseIfFailed (Damaged file place) old new = Unit {0}
+RoseIfFailed (Damaged file place) old new = new ≡ old
 
 -- Calls that only looked: all that is told of contents, crashes and the past is as it was.
 pub record OnlyLooked (old new : View) : Type 0 where

@@ -1,20 +1,20 @@
 //! Appending a record, one disk call at a time.
 ghost use Rattle.std.specs.Prelude.{◌≡◌, ◌+◌, ◌*◌, ◌<◌, length, IsTrue, IfOk, OnOk, OnErr, Option, Some, None, [], ◌∷◌, ◌++◌, List};
 ghost use Rattle.ckpt_base.specs.Faults.{Rose};
-ghost use Rattle.disk_model.specs.View.{Steady};
+ghost use Rattle.disk_model.specs.View.{SameFile, Steady};
 ghost use Rattle.disk_model.specs.Moments.{Among, LeavesOnly};
 ghost use Rattle.image_format.specs.Image.{Image};
 ghost use Rattle.image_chain.specs.Records.{broken_field};
-ghost use Rattle.image_chain.specs.Append.{header_of, IsDue, IsInside, SameCurrent, Spells, TakesOver, TakesSpan, IfLast, next_of, due_after as step_after};
+ghost use Rattle.image_chain.specs.Append.{header_of, IsDue, IsInside, SameCurrent, Spells, TakesOver, TakesSpan, IfLast, IsSoundFile, next_of, due_after as step_after};
 ghost use Rattle.image_chain.specs.Lists.{Makes, IsAppended, Rests};
 
 use crate::chain::{Chain, Current, Span, Step};
 use ckpt_base::Failed;
-use disk_model::Disk;
+use disk_model::{Disk, DiskFile};
 use image_format::{Fields, read_record};
 
 /// How many bytes a piece has, but for the last one of a record.
-const PIECE_BYTES: usize = 4096;
+pub(crate) const PIECE_BYTES: usize = 4096;
 
 /// The gate byte that is open.
 pub(crate) const OPEN_GATE: u8 = 0xA5;
@@ -46,6 +46,7 @@ impl Chain {
         ensures took { OnOk result (IfLast at (TakesOver self.old.current self.new.current image.now)) }
         ensures makes { Makes self.old.current self.new.current image.now at result (D.view disk.old) (D.view disk.new) }
         ensures failed { OnErr result (Rose (D.view disk.old).faults (D.view disk.new).faults) }
+        ensures counts { OnOk result ((D.view disk.new).faults ≡ (D.view disk.old).faults) }
         ensures steady { Steady (D.view disk.old) (D.view disk.new) }
     {
         let made = make_step(&mut self.current, disk, image, at);
@@ -68,7 +69,9 @@ impl Chain {
             → Rests self.new (D.view disk.new) (rs ++ r ∷ [])) }
         ensures any_moment { IsTrue (D.view disk.old).tells → (rs : List Image) (r : Image) → Spells r image.now → Rests self.old (D.view disk.old) rs
             → LeavesOnly (D.view disk.old) (D.view disk.new) (Among (D.view disk.old).may_leave (IsAppended self.old.current rs r)) }
+        ensures output { IsTrue (D.view disk.old).tells → (rs : List Image) → Rests self.old (D.view disk.old) rs → SameFile DiskFile.Output (D.view disk.old) (D.view disk.new) }
         ensures failed { OnErr result (Rose (D.view disk.old).faults (D.view disk.new).faults) }
+        ensures counts { OnOk result ((D.view disk.new).faults ≡ (D.view disk.old).faults) }
         ensures steady { Steady (D.view disk.old) (D.view disk.new) }
     {
         let mut at = Step::Piece(0);
@@ -104,8 +107,10 @@ fn make_step<D: Disk>(
     ensures order { IfOk result (λ next. next ≡ next_of at (length image.now)) }
     ensures same { SameCurrent at chain.old chain.new }
     ensures took { OnOk result (IfLast at (TakesOver chain.old chain.new image.now)) }
+    ensures sound { IsSoundFile chain.old → IsSoundFile chain.new }
     ensures makes { Makes chain.old chain.new image.now at result (D.view disk.old) (D.view disk.new) }
     ensures failed { OnErr result (Rose (D.view disk.old).faults (D.view disk.new).faults) }
+    ensures counts { OnOk result ((D.view disk.new).faults ≡ (D.view disk.old).faults) }
     ensures steady { Steady (D.view disk.old) (D.view disk.new) }
 {
     match at {
@@ -130,6 +135,7 @@ fn write_piece<D: Disk>(
     ensures same { chain.new ≡ chain.old }
     ensures makes { Makes chain.old chain.new image.now (Step.Piece i) result (D.view disk.old) (D.view disk.new) }
     ensures failed { OnErr result (Rose (D.view disk.old).faults (D.view disk.new).faults) }
+    ensures counts { OnOk result ((D.view disk.new).faults ≡ (D.view disk.old).faults) }
     ensures steady { Steady (D.view disk.old) (D.view disk.new) }
 {
     let from = PIECE_BYTES * i as usize;
@@ -146,6 +152,7 @@ fn sync_record<D: Disk>(chain: &mut Current, disk: &mut D, image: &[u8]) -> Resu
     ensures same { chain.new ≡ chain.old }
     ensures makes { Makes chain.old chain.new image.now Step.SyncRecord result (D.view disk.old) (D.view disk.new) }
     ensures failed { OnErr result (Rose (D.view disk.old).faults (D.view disk.new).faults) }
+    ensures counts { OnOk result ((D.view disk.new).faults ≡ (D.view disk.old).faults) }
     ensures steady { Steady (D.view disk.old) (D.view disk.new) }
 {
     disk.sync(chain.file)?;
@@ -160,6 +167,7 @@ fn open_gate<D: Disk>(chain: &mut Current, disk: &mut D, image: &[u8]) -> Result
     ensures same { chain.new ≡ chain.old }
     ensures makes { Makes chain.old chain.new image.now Step.OpenGate result (D.view disk.old) (D.view disk.new) }
     ensures failed { OnErr result (Rose (D.view disk.old).faults (D.view disk.new).faults) }
+    ensures counts { OnOk result ((D.view disk.new).faults ≡ (D.view disk.old).faults) }
     ensures steady { Steady (D.view disk.old) (D.view disk.new) }
 {
     disk.write_at(chain.file, chain.gate, &[OPEN_GATE])?;
@@ -172,8 +180,10 @@ fn sync_gate<D: Disk>(chain: &mut Current, disk: &mut D, image: &[u8]) -> Result
     requires follows { (r : Image) → Spells r image.now → broken_field chain.old.newest r.fields ≡ None }
     ensures order { IfOk result (λ next. next ≡ next_of Step.SyncGate (length image.now)) }
     ensures took { OnOk result (TakesOver chain.old chain.new image.now) }
+    ensures sound { IsSoundFile chain.old → IsSoundFile chain.new }
     ensures makes { Makes chain.old chain.new image.now Step.SyncGate result (D.view disk.old) (D.view disk.new) }
     ensures failed { OnErr result (Rose (D.view disk.old).faults (D.view disk.new).faults) }
+    ensures counts { OnOk result ((D.view disk.new).faults ≡ (D.view disk.old).faults) }
     ensures steady { Steady (D.view disk.old) (D.view disk.new) }
 {
     disk.sync(chain.file)?;

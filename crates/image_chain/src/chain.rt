@@ -1,4 +1,5 @@
-ghost use Rattle.std.specs.Prelude.{◌≡◌, ◌≤◌, ◌+◌, ◌*◌, length};
+ghost use Rattle.std.specs.Prelude.{◌≡◌, ◌≤◌, ◌+◌, ◌*◌, length, IsSome, None};
+ghost use Rattle.image_chain.specs.Sound.{IsSound};
 
 use disk_model::DiskFile;
 use image_format::Fields;
@@ -24,6 +25,7 @@ pub struct Chain {
     pub(crate) current: Current,
     /// The step that is due.
     pub(crate) due: Step,
+    ghost sound: { IsSound current.generation current.every current.max current.count current.newest },
 }
 
 /// Where a record stands in its file, and how many bytes it has.
@@ -52,4 +54,7 @@ pub struct Current {
     /// Where each record stands; those past the count mean nothing.
     pub(crate) spans: [Span; 64],
     ghost bounds: { (gate ≤ 15 + 3145837 * count) × (count ≤ max) × (max ≤ 64) × (length spans ≡ 64) },
+    ghost some: { 1 ≤ count → IsSome newest },
+    ghost none: { count ≡ 0 → newest ≡ None },
+    ghost short: { newest_at ≤ 15 + 3145837 * count },
 }

@@ -1,13 +1,16 @@
 //! The joined content of a chain.
-ghost use Rattle.std.specs.Prelude.{◌≡◌, ◌<◌, ◌≤◌, ◌+◌, ◌*◌, ℕ, length, IfOk, None};
+ghost use Rattle.std.specs.Prelude.{◌≡◌, ◌<◌, ◌≤◌, ◌+◌, ◌*◌, ◌++◌, ℕ, length, IfOk, None};
 ghost use Rattle.std.specs.Option.{option_or};
 ghost use Rattle.std.specs.Int.{w64, from_be_bytes};
 ghost use Rattle.page_frames.specs.Words.{eight, words_of};
-ghost use Rattle.image_format.specs.Image.{word_in_run, word_in_runs};
-ghost use Rattle.image_chain.specs.Memory.{joined, kept_word};
+ghost use Rattle.image_format.specs.Image.{InRange, IsImage, word_in_run, word_in_runs};
+ghost use Rattle.image_format.specs.Spelling.{image_length, spelling};
+ghost use Rattle.image_format.specs.Written.{AreListed, filled, image_of, size_of_runs};
+ghost use Rattle.image_chain.specs.Memory.{AreKept, joined, kept_in, kept_word};
 
-use ckpt_base::NoMemory;
-use image_format::ImageView;
+use cell_sets::Run;
+use ckpt_base::{Bytes, NoMemory};
+use image_format::{Fields, ImageView, write_record_from};
 use std::alloc::Global;
 use std::marker::Model;
 
@@ -55,11 +58,34 @@ impl Kept {
         }
     }
 
+    /// No cell past the 262,144 is listed.
+    pub fn tells(&self)
+        ensures none { (c : ℕ) → 262144 ≤ c → kept_word self.now c ≡ None }
+    {
+        let _listed = &self.listed;
+    }
+
     /// Lists the cells of the record with its words, and leaves the others.
     pub fn add(&mut self, view: &ImageView<'_>)
         ensures answer { (c : ℕ) → kept_word self.new c ≡ option_or (word_in_runs view.now.runs c) (kept_word self.old c) }
     {
         add_runs(self.words.as_mut_slice(), self.listed.as_mut_slice(), view);
+    }
+
+    /// Appends the record of the image that lists the cells of `runs`, each of which is listed here, with their words. Its last gate
+    /// is closed.
+    pub fn write_record(&self, fields: &Fields, runs: &[Run], out: &mut Bytes)
+        requires ranges { InRange fields.now }
+        requires rising { AreListed runs.now }
+        requires kept { AreKept self.now runs.now }
+        requires room { 109 + size_of_runs runs.now ≤ out.old.spare }
+        ensures list { out.new.list ≡ out.old.list ++ spelling (image_of fields.now runs.now self.now.words) 0 }
+        ensures spare { out.new.spare + 109 + size_of_runs runs.now ≡ out.old.spare }
+        ensures found { IsImage (image_of fields.now runs.now self.now.words) }
+        ensures size { image_length (image_of fields.now runs.now self.now.words) ≡ 109 + size_of_runs runs.now }
+        ensures words { (c : ℕ) → word_in_runs (filled self.now.words runs.now) c ≡ kept_in runs.now self.now c }
+    {
+        write_record_from(fields, runs, &self.words, out);
     }
 }
 

@@ -13,6 +13,7 @@ mod kept;
 mod look;
 mod open;
 mod record;
+mod replace;
 mod room;
 mod start;
 #[cfg(test)]

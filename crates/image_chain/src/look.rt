@@ -1,5 +1,5 @@
 //! Looking at the files of a store.
-ghost use Rattle.std.specs.Prelude.{◌≡◌, ◌≤◌, ◌-◌, length, take, drop, IsTrue, IfOk, IfErr, OnErr, true};
+ghost use Rattle.std.specs.Prelude.{◌≡◌, ◌≤◌, ◌-◌, length, take, drop, IsTrue, IfOk, IfErr, OnErr, true, OnOk};
 ghost use Rattle.ckpt_base.specs.Faults.{Rose};
 ghost use Rattle.disk_model.specs.Store.{file_of};
 ghost use Rattle.image_format.specs.Reading.{image_at};
@@ -19,6 +19,7 @@ pub(crate) fn header_of<D: Disk>(disk: &mut D, file: DiskFile) -> Result<Option<
     ensures text { IfOk result (λ h. IsTrue (D.view disk.old).tells → IsHeaderText h (file_of file (D.view disk.old).seen)) }
     ensures looked { OnlyLooked (D.view disk.old) (D.view disk.new) }
     ensures failed { IfErr result (λ e. RoseIfFailed e (D.view disk.old).faults (D.view disk.new).faults) }
+    ensures counts { OnOk result ((D.view disk.new).faults ≡ (D.view disk.old).faults) }
 {
     let length = disk.length(file)?;
     if length == 0 {
@@ -43,6 +44,7 @@ fn claimed_length<D: Disk>(disk: &mut D, file: DiskFile, at: u64) -> Result<usiz
     ensures bound { IfOk result (λ n. n ≤ 3145837) }
     ensures looked { OnlyLooked (D.view disk.old) (D.view disk.new) }
     ensures failed { OnErr result (Rose (D.view disk.old).faults (D.view disk.new).faults) }
+    ensures counts { OnOk result ((D.view disk.new).faults ≡ (D.view disk.old).faults) }
 {
     let mut head = [0; 5];
     disk.read_at(file, at, head.as_mut_slice())?;
@@ -66,6 +68,7 @@ pub(crate) fn fetch<D: Disk>(
     ensures bytes { IfOk result (λ n. IsTrue (D.view disk.old).tells → take n room.new ≡ take n (drop at (file_of file (D.view disk.old).seen))) }
     ensures looked { OnlyLooked (D.view disk.old) (D.view disk.new) }
     ensures failed { OnErr result (Rose (D.view disk.old).faults (D.view disk.new).faults) }
+    ensures counts { OnOk result ((D.view disk.new).faults ≡ (D.view disk.old).faults) }
 {
     let claimed = claimed_length(disk, file, at)?;
     let n = room.fill(disk, file, at, claimed)?;

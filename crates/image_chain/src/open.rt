@@ -1,12 +1,13 @@
 //! Opening the chain of a store.
-ghost use Rattle.std.specs.Prelude.{◌≡◌, ◌≢◌, ◌+◌, ◌<◌, ◌≤◌, length, IsTrue, IfOk, IfErr, OnOk, slice_index, Option, Some, None, Ok, Err, [], ◌∷◌, ◌++◌, List, ℕ, true, false, if◌then◌else◌, take};
+ghost use Rattle.std.specs.Prelude.{◌≡◌, ◌≢◌, ◌+◌, ◌<◌, ◌≤◌, length, IsTrue, IfOk, IfErr, IfSome, OnOk, slice_index, Option, Some, None, Ok, Err, [], ◌∷◌, ◌++◌, List, ℕ, true, false, if◌then◌else◌, take};
 ghost use Rattle.disk_model.specs.Store.{file_of};
-ghost use Rattle.disk_model.specs.View.{Steady};
+ghost use Rattle.disk_model.specs.View.{SameFile, Steady};
 ghost use Rattle.disk_model.specs.Moments.{LeavesOnly};
 ghost use Rattle.image_format.specs.Image.{Image, IsHeldHeader};
 ghost use Rattle.image_format.specs.Spelling.{is_open, image_length, SpellsHeader};
 ghost use Rattle.image_chain.specs.Records.{broken_field, only_open, newer as newer_of, in_number, damaged, records_at, found_in, chain_in};
 ghost use Rattle.image_chain.specs.Memory.{kept_word};
+ghost use Rattle.image_chain.specs.Sound.{HasNewest};
 ghost use Rattle.image_chain.specs.Append.{header_of as header_kept};
 ghost use Rattle.image_chain.specs.Lists.{found_of};
 ghost use Rattle.image_chain.specs.Looking.{IsDamage, Answers, RoseIfFailed, OnlyLooked};
@@ -128,6 +129,7 @@ fn read_next<D: Disk>(
 ) -> Result<bool, ChainFault>
     ensures same { OnOk result ((header_kept current.new ≡ header_kept current.old) × (current.new.file ≡ current.old.file)) }
     ensures count { OnOk result ((current.new.count ≡ current.old.count + 1) × (current.old.count < current.old.max)) }
+    ensures newest { OnOk result (HasNewest current.new.newest) }
     ensures answer { IfOk result (λ next. IsTrue (D.view disk.old).tells → (rs : List Image) → Walked current.old kept.old rs (file_of current.old.file (D.view disk.old).seen)
         → is_open (slice_index (file_of current.old.file (D.view disk.old).seen) current.old.gate) ≡ true
         → ((r : Image) × Walked current.new kept.new (rs ++ r ∷ []) (file_of current.old.file (D.view disk.old).seen)) × (is_open (slice_index (file_of current.old.file (D.view disk.old).seen) current.new.gate) ≡ next)) }
@@ -136,6 +138,7 @@ fn read_next<D: Disk>(
         → IsDamage e (records_at current.old.max current.old.file (file_of current.old.file (D.view disk.old).seen) None 15)) }
     ensures looked { OnlyLooked (D.view disk.old) (D.view disk.new) }
     ensures failed { IfErr result (λ e. RoseIfFailed e (D.view disk.old).faults (D.view disk.new).faults) }
+    ensures counts { OnOk result ((D.view disk.new).faults ≡ (D.view disk.old).faults) }
 {
     let at = current.gate + 1;
     let n = fetch(disk, current.file, at, room)?;
@@ -162,11 +165,14 @@ fn walk<D: Disk>(
 ) -> Result<(), ChainFault>
     requires begins { IsTrue (D.view disk.old).tells → Walked current.old kept.old [] (file_of current.old.file (D.view disk.old).seen) × (is_open (slice_index (file_of current.old.file (D.view disk.old).seen) current.old.gate) ≡ true) }
     ensures same { OnOk result ((header_kept current.new ≡ header_kept current.old) × (current.new.file ≡ current.old.file)) }
+    ensures newest { OnOk result (HasNewest current.new.newest) }
+    ensures some { OnOk result (1 ≤ current.new.count) }
     ensures answer { OnOk result (IsTrue (D.view disk.old).tells → (rs : List Image) × Walked current.new kept.new rs (file_of current.old.file (D.view disk.old).seen)
         × (is_open (slice_index (file_of current.old.file (D.view disk.old).seen) current.new.gate) ≡ false) × (1 ≤ length rs)) }
     ensures err { IfErr result (λ e. IsTrue (D.view disk.old).tells → IsDamage e (records_at current.old.max current.old.file (file_of current.old.file (D.view disk.old).seen) None 15)) }
     ensures looked { OnlyLooked (D.view disk.old) (D.view disk.new) }
     ensures failed { IfErr result (λ e. RoseIfFailed e (D.view disk.old).faults (D.view disk.new).faults) }
+    ensures counts { OnOk result ((D.view disk.new).faults ≡ (D.view disk.old).faults) }
 {
     let mut open = read_next(disk, current, room, kept)?;
     while open {
@@ -200,11 +206,13 @@ fn read_chain<D: Disk>(
     requires text { IsTrue (D.view disk.old).tells → SpellsHeader header (take 16 (file_of file (D.view disk.old).seen)) × (16 ≤ length (file_of file (D.view disk.old).seen)) }
     requires none { (c : ℕ) → kept_word kept.old c ≡ None }
     ensures same { IfOk result (λ chain. (chain.current.file ≡ file) × (header_kept chain.current ≡ header) × (chain.due ≡ Step.Piece 0)) }
+    ensures some { IfOk result (λ chain. 1 ≤ chain.current.count) }
     ensures answer { IfOk result (λ chain. IsTrue (D.view disk.old).tells → (rs : List Image) × IsRead chain.current kept.new rs (file_of file (D.view disk.old).seen)
         × (found_in (D.view disk.old).seen (Some (file, header)) ≡ Ok (found_of file header rs))) }
     ensures err { IfErr result (λ e. IsTrue (D.view disk.old).tells → IsDamage e (found_in (D.view disk.old).seen (Some (file, header)))) }
     ensures looked { OnlyLooked (D.view disk.old) (D.view disk.new) }
     ensures failed { IfErr result (λ e. RoseIfFailed e (D.view disk.old).faults (D.view disk.new).faults) }
+    ensures counts { OnOk result ((D.view disk.new).faults ≡ (D.view disk.old).faults) }
 {
     let mut current = Current {
         file,
@@ -234,10 +242,13 @@ fn read_store<D: Disk>(
     kept: &mut Kept,
 ) -> Result<Option<Chain>, ChainFault>
     requires none { (c : ℕ) → kept_word kept.old c ≡ None }
+    ensures rest { IfOk result (λ found. IfSome found (λ chain. chain.due ≡ Step.Piece 0)) }
+    ensures some { IfOk result (λ found. IfSome found (λ chain. 1 ≤ chain.current.count)) }
     ensures answer { IfOk result (λ found. IsTrue (D.view disk.old).tells → (rs : List Image) × (chain_in (D.view disk.old).seen ≡ Ok (opened_as found rs)) × IsFound found kept.new rs (D.view disk.old).seen) }
     ensures err { IfErr result (λ e. IsTrue (D.view disk.old).tells → IsDamage e (chain_in (D.view disk.old).seen)) }
     ensures looked { OnlyLooked (D.view disk.old) (D.view disk.new) }
     ensures failed { IfErr result (λ e. RoseIfFailed e (D.view disk.old).faults (D.view disk.new).faults) }
+    ensures counts { OnOk result ((D.view disk.new).faults ≡ (D.view disk.old).faults) }
 {
     let one = header_of(disk, DiskFile::One)?;
     let two = header_of(disk, DiskFile::Two)?;
@@ -260,11 +271,15 @@ impl Chain {
         kept: &mut Kept,
     ) -> Result<Option<Chain>, ChainFault>
         requires none { (c : ℕ) → kept_word kept.old c ≡ None }
+        ensures rest { IfOk result (λ found. IfSome found (λ chain. chain.due ≡ Step.Piece 0)) }
+        ensures some { IfOk result (λ found. IfSome found (λ chain. 1 ≤ chain.current.count)) }
         ensures answer { IfOk result (λ found. IsTrue (D.view disk.old).tells → (rs : List Image) × (chain_in (D.view disk.old).seen ≡ Ok (opened_as found rs)) × IsOpened found kept.new rs (D.view disk.new)) }
         ensures err { IfErr result (λ e. IsTrue (D.view disk.old).tells → IsDamage e (chain_in (D.view disk.old).seen)) }
         ensures same { IsTrue (D.view disk.old).tells → (D.view disk.new).seen ≡ (D.view disk.old).seen }
         ensures any_moment { IsTrue (D.view disk.old).tells → LeavesOnly (D.view disk.old) (D.view disk.new) (D.view disk.old).may_leave }
+        ensures output { IsTrue (D.view disk.old).tells → SameFile DiskFile.Output (D.view disk.old) (D.view disk.new) }
         ensures failed { IfErr result (λ e. RoseIfFailed e (D.view disk.old).faults (D.view disk.new).faults) }
+        ensures counts { OnOk result ((D.view disk.new).faults ≡ (D.view disk.old).faults) }
         ensures steady { Steady (D.view disk.old) (D.view disk.new) }
     {
         disk.sync(DiskFile::One)?;

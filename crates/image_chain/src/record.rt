@@ -1,8 +1,9 @@
 //! What a chain tells, and its records.
-ghost use Rattle.std.specs.Prelude.{◌≡◌, ◌<◌, ◌≤◌, ◌+◌, List, ◌∷◌, [], ◌++◌, length, take, IsTrue, IfOk, IfErr, Option, None, Ok};
+ghost use Rattle.std.specs.Prelude.{◌≡◌, ◌<◌, ◌≤◌, ◌+◌, List, ◌∷◌, [], ◌++◌, length, take, IsTrue, IfOk, IfErr, IsSome, Option, None, Ok, OnOk};
 ghost use Rattle.disk_model.specs.Store.{Store, file_of};
 ghost use Rattle.image_format.specs.Image.{Image};
 ghost use Rattle.image_chain.specs.Records.{newest_of};
+ghost use Rattle.image_chain.specs.Sound.{HasNewest};
 ghost use Rattle.image_chain.specs.Append.{chained_length};
 ghost use Rattle.image_chain.specs.Lists.{Lists, Rests};
 ghost use Rattle.image_chain.specs.Looking.{OnlyLooked, RoseIfFailed};
@@ -48,6 +49,9 @@ impl Chain {
     /// What the newest record says of its checkpoint; none where there is no record.
     pub fn newest(&self) -> Option<Fields>
         ensures answer { result ≡ self.now.current.newest }
+        ensures said { 1 ≤ self.now.current.count → HasNewest result }
+        ensures some { 1 ≤ self.now.current.count → IsSome result }
+        ensures none { self.now.current.count ≡ 0 → result ≡ None }
     {
         self.current.newest
     }
@@ -63,6 +67,7 @@ impl Chain {
     pub fn newest_place(&self) -> u64
         requires some { 1 ≤ self.now.current.count }
         ensures answer { result ≡ self.now.current.newest_at }
+        ensures most { result ≤ 201333583 }
     {
         self.current.newest_at
     }
@@ -85,6 +90,7 @@ impl Chain {
         ensures told { ShowsRecord self.now (D.view disk.old) i result room.new }
         ensures looked { OnlyLooked (D.view disk.old) (D.view disk.new) }
         ensures failed { IfErr result (λ e. RoseIfFailed e (D.view disk.old).faults (D.view disk.new).faults) }
+        ensures counts { OnOk result ((D.view disk.new).faults ≡ (D.view disk.old).faults) }
     {
         let span = self.span_of(i);
         read_span(disk, self.current.file, span, room)
@@ -122,6 +128,7 @@ fn read_span<D: Disk>(
     ensures told { IsTrue (D.view disk.old).tells → (r : Image) → StandsAt span r (file_of file (D.view disk.old).seen) → IsShown result r room.new }
     ensures looked { OnlyLooked (D.view disk.old) (D.view disk.new) }
     ensures failed { IfErr result (λ e. RoseIfFailed e (D.view disk.old).faults (D.view disk.new).faults) }
+    ensures counts { OnOk result ((D.view disk.new).faults ≡ (D.view disk.old).faults) }
 {
     let n = room.fill(disk, file, span.at, span.length.min(RECORD_BYTES))?;
     let view = match read_record(&room.bytes()[..n]) {

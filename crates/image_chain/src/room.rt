@@ -1,4 +1,4 @@
-ghost use Rattle.std.specs.Prelude.{◌≡◌, ◌≤◌, length, take, drop, IsTrue, IfOk, OnErr};
+ghost use Rattle.std.specs.Prelude.{◌≡◌, ◌≤◌, length, take, drop, IsTrue, IfOk, OnErr, OnOk};
 ghost use Rattle.ckpt_base.specs.Faults.{Rose};
 ghost use Rattle.disk_model.specs.Store.{file_of};
 ghost use Rattle.image_chain.specs.Looking.{OnlyLooked};
@@ -59,6 +59,7 @@ impl ChainRoom {
         ensures bytes { IfOk result (λ n. IsTrue (D.view disk.old).tells → take n self.new ≡ take n (drop at (file_of file (D.view disk.old).seen))) }
         ensures looked { OnlyLooked (D.view disk.old) (D.view disk.new) }
         ensures failed { OnErr result (Rose (D.view disk.old).faults (D.view disk.new).faults) }
+        ensures counts { OnOk result ((D.view disk.new).faults ≡ (D.view disk.old).faults) }
     {
         let bytes = self.bytes.as_mut_slice();
         fill_front(disk, file, at, bytes, len)
@@ -79,6 +80,7 @@ fn fill_front<D: Disk>(
     ensures bytes { IfOk result (λ n. IsTrue (D.view disk.old).tells → take n bytes.new ≡ take n (drop at (file_of file (D.view disk.old).seen))) }
     ensures looked { OnlyLooked (D.view disk.old) (D.view disk.new) }
     ensures failed { OnErr result (Rose (D.view disk.old).faults (D.view disk.new).faults) }
+    ensures counts { OnOk result ((D.view disk.new).faults ≡ (D.view disk.old).faults) }
 {
     let part = &mut bytes[..len];
     let n = disk.read_at(file, at, part)?;

@@ -2,7 +2,7 @@
 ghost use Rattle.std.specs.Prelude.{◌≡◌, ◌+◌, ◌≤◌, IsTrue, IfOk, OnOk, OnErr, None, Ok, [], List};
 ghost use Rattle.ckpt_base.specs.Faults.{Rose};
 ghost use Rattle.disk_model.specs.Store.{Store};
-ghost use Rattle.disk_model.specs.View.{Steady};
+ghost use Rattle.disk_model.specs.View.{SameFile, Steady};
 ghost use Rattle.disk_model.specs.Moments.{Among, LeavesOnly};
 ghost use Rattle.image_format.specs.Image.{Image};
 ghost use Rattle.image_chain.specs.Records.{chain_in};
@@ -21,12 +21,15 @@ impl Chain {
         requires every { 1 ≤ every }
         requires least { 2 ≤ max }
         requires most { max ≤ 64 }
+        ensures file { IfOk result (λ chain. chain.current.file ≡ DiskFile.One) }
         ensures header { IfOk result (λ chain. (chain.current.generation ≡ 1) × (chain.current.every ≡ every) × (chain.current.max ≡ max)) }
         ensures none { IfOk result (λ chain. (chain.current.count ≡ 0) × (chain.current.newest ≡ None) × (chain.due ≡ Step.Piece 0)) }
         ensures answer { IfOk result (λ chain. IsTrue (D.view disk.old).tells → ((c : Store) → (D.view disk.old).may_leave c → chain_in c ≡ Ok None) → Rests chain (D.view disk.new) []) }
         ensures any_moment { IsTrue (D.view disk.old).tells → ((c : Store) → (D.view disk.old).may_leave c → chain_in c ≡ Ok None)
             → LeavesOnly (D.view disk.old) (D.view disk.new) (Among (D.view disk.old).may_leave HasNone) }
+        ensures output { IsTrue (D.view disk.old).tells → SameFile DiskFile.Output (D.view disk.old) (D.view disk.new) }
         ensures failed { OnErr result (Rose (D.view disk.old).faults (D.view disk.new).faults) }
+        ensures counts { OnOk result ((D.view disk.new).faults ≡ (D.view disk.old).faults) }
         ensures steady { Steady (D.view disk.old) (D.view disk.new) }
     {
         let header = write_header(&Header {
@@ -60,7 +63,9 @@ impl Chain {
         ensures answer { OnOk result (IsTrue (D.view disk.old).tells → (rs : List Image) → Rests self.old (D.view disk.old) rs → Rests self.new (D.view disk.new) rs × IsSettled self.new (D.view disk.new)) }
         ensures any_moment { IsTrue (D.view disk.old).tells → (rs : List Image) → Rests self.old (D.view disk.old) rs
             → LeavesOnly (D.view disk.old) (D.view disk.new) (Among (D.view disk.old).may_leave (IsKept self.old.current rs)) }
+        ensures output { IsTrue (D.view disk.old).tells → (rs : List Image) → Rests self.old (D.view disk.old) rs → SameFile DiskFile.Output (D.view disk.old) (D.view disk.new) }
         ensures failed { OnErr result (Rose (D.view disk.old).faults (D.view disk.new).faults) }
+        ensures counts { OnOk result ((D.view disk.new).faults ≡ (D.view disk.old).faults) }
         ensures steady { Steady (D.view disk.old) (D.view disk.new) }
     {
         let current = &self.current;

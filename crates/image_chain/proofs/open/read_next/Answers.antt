@@ -5,6 +5,7 @@ use Rattle.std.proofs.lemmas.Result.{err_from_is_err_and}
 use Rattle.image_format.specs.Spelling.{is_open, image_length, IsFront}
 use Rattle.image_format.specs.Reading.{image_at}
 use Rattle.image_chain.proofs.WalkLaws.{walk_bad, walk_refused, walk_on, record_length_fits, record_inside, last_gate}
+use Rattle.image_chain.specs.Sound.{HasNewest}
 use Rattle.image_chain.proofs.open.read_next.Goals as goal
 
 pub overflow_add-result : goal.overflow_add-result
@@ -44,3 +45,6 @@ returns-clause-answer g c = λ tells rs walked opened.
     let last = last_gate c.fetch.new.room c.in_ok-n.n (image_length view - 1) (omega (arith, inside.0, inside.1)) in
     let there = w.1 ∙ last ∙ ap (λ (l : List ℕ). slice_index l (image_length view - 1)) (sym bytes) ∙ ap (λ (k : ℕ). slice_index c.bytes-bytes.result.now (k - 1)) (sym c.length.ensures.answer) in
     ((view, w.0), ap is_open there)
+
+pub returns-clause-newest : goal.returns-clause-newest
+returns-clause-newest g c = subst HasNewest (sym c.in_ok-accept.ensures.answer.newest) c.in-Ok.ensures.found.0.fields

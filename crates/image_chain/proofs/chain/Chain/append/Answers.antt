@@ -5,7 +5,7 @@ use Rattle.image_chain.specs.declared.chain.Step.{Step}
 use Rattle.image_chain.specs.declared.chain.Current.{Current}
 use Rattle.image_chain.specs.Records.{broken_field}
 use Rattle.image_chain.specs.Append.{IsInsideOrDone, Stands, due_after}
-use Rattle.image_chain.proofs.LoopLaws.{begun, goes_on, due_next, inside_next, inside_due, smaller, stands_due, due_is, same_next, took_next, not_last}
+use Rattle.image_chain.proofs.LoopLaws.{begun, goes_on, output_goes_on, due_next, inside_next, inside_due, smaller, stands_due, due_is, same_next, took_next, not_last}
 use Rattle.image_chain.proofs.StepLaws.{spells_length}
 use Rattle.image_chain.proofs.chain.Chain.append.Goals as goal
 
@@ -16,6 +16,7 @@ loop-at-init g c = record {
   same = λ _. refl;
   took = λ last. absurd (not_last last);
   steady = record { tells = refl; tells_past = refl; faults = omega arith };
+  counts = refl;
   so_far = λ tells rs r behind spells rest. begun c.args.self.now.current _ rs r c.args.image.now behind tells (g.met.D.Disk.lawful c.args.disk.now tells) rest;
 }
 
@@ -28,6 +29,9 @@ returns-in-Done-clause-answer g c = λ tells rs r spells rests.
 
 pub returns-in-Done-clause-any_moment : goal.returns-in-Done-clause-any_moment
 returns-in-Done-clause-any_moment g c = λ tells rs r spells rests. (c.loop-at.invariant.so_far tells rs r rests.1.0 spells rests.1.1).moments
+
+pub returns-in-Done-clause-output : goal.returns-in-Done-clause-output
+returns-in-Done-clause-output g c = λ tells rs rests. (c.loop-at.invariant.so_far tells rs c.requires.image.0 rests.1.0 c.requires.image.1 rests.1.1).output
 
 pub append_call-requires : goal.append_call-requires
 append_call-requires g c =
@@ -53,7 +57,11 @@ returns-in_err-at g c =
       took = search rules;
       answer = search rules;
       any_moment = λ tells rs r spells rests. goes_on c.args.self.now.current c.loop-at.self.current c.append_call.new.self.current _ _ _ rs r c.args.image.now c.loop-at.at c.append_call.result (c.loop-at.invariant.same c.in_default.not-Done) tells spells inside (c.loop-at.invariant.so_far tells rs r rests.1.0 spells rests.1.1) c.append_call.ensures.makes;
+      output = λ tells rs rests.
+          let image = c.requires.image in
+          output_goes_on c.args.self.now.current c.loop-at.self.current c.append_call.new.self.current _ _ _ rs image.0 c.args.image.now c.loop-at.at c.append_call.result tells image.1 inside (c.loop-at.invariant.so_far tells rs image.0 rests.1.0 image.1 rests.1.1) c.append_call.ensures.makes;
       failed = let a = c.in_err-at.ensures.failed in let b = c.loop-at.invariant.steady.faults in let rose : Rose (g.D.Disk.view c.args.disk.now).faults (g.D.Disk.view c.append_call.new.disk).faults = omega (arith, a, b) in search rules;
+      counts = search rules;
       steady = steady_twice _ _ _ c.loop-at.invariant.steady c.append_call.ensures.steady;
     }
 
@@ -73,10 +81,12 @@ loop-at-preserved g c =
       same = λ more. same_next c.loop-at.at (length c.args.image.now) c.args.self.now.current c.loop-at.self.current c.append_call.new.self.current inside same c.append_call.ensures.same (λ e. more (order ∙ e));
       took = λ last. took_next c.loop-at.at (length c.args.image.now) c.args.self.now.current c.loop-at.self.current c.append_call.new.self.current c.args.image.now inside same c.in_ok-at.ensures.took (sym order ∙ last);
       steady = steady_twice _ _ _ c.loop-at.invariant.steady c.append_call.ensures.steady;
+      counts = c.in_ok-at.ensures.counts ∙ c.loop-at.invariant.counts;
       so_far = λ tells rs r behind spells rest.
           let was = c.loop-at.invariant.so_far tells rs r behind spells rest in
           record {
             due = due_next c.loop-at.self.current c.append_call.new.self.current _ _ rs r c.args.image.now c.loop-at.at c.in_ok-at.at (subst IsTrue (sym c.loop-at.invariant.steady.tells) tells) spells inside was.due c.in_ok-at.ensures.makes;
             moments = goes_on c.args.self.now.current c.loop-at.self.current c.append_call.new.self.current _ _ _ rs r c.args.image.now c.loop-at.at c.append_call.result same tells spells inside was c.append_call.ensures.makes;
+            output = output_goes_on c.args.self.now.current c.loop-at.self.current c.append_call.new.self.current _ _ _ rs r c.args.image.now c.loop-at.at c.append_call.result tells spells inside was c.append_call.ensures.makes;
           };
     }

@@ -13,6 +13,7 @@ invariant-loop-at g l = record {
   same : l.at ≢ Done → l.self.current ≡ l.fn.self.current;
   took : l.at ≡ Done → TakesOver l.fn.self.current l.self.current l.image;
   steady : Steady (g.D.Disk.view l.fn.disk) (g.D.Disk.view l.disk);
+  counts : (g.D.Disk.view l.disk).faults ≡ (g.D.Disk.view l.fn.disk).faults;
   so_far : IsTrue (g.D.Disk.view l.fn.disk).tells → (rs : List Image) (r : Image) (behind : List ℕ) → Spells r l.image → IsAtRest l.fn.self.current (g.D.Disk.view l.fn.disk) rs behind → SoFar l.fn.self.current l.self.current r l.image l.at (g.D.Disk.view l.fn.disk) (g.D.Disk.view l.disk) rs;
 }
 

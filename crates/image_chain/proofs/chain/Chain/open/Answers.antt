@@ -3,6 +3,9 @@ use Rattle.disk_model.specs.Store.{Store}
 use Rattle.image_chain.specs.Records.{chain_in}
 use Rattle.image_chain.specs.Walk.{IsFound, opened_as}
 use Rattle.image_chain.proofs.OpenLaws.{synced_files, opened_all}
+use Rattle.disk_model.specs.declared.disk_file.DiskFile.TheVariants.{Output, One}
+use Rattle.disk_model.proofs.Calls.{others_stay}
+use Rattle.image_chain.proofs.OutputLaws.{one_aside, synced_output, looked_output}
 use Rattle.image_chain.proofs.chain.Chain.open.Goals as goal
 
 pub returns-clause-answer : goal.returns-clause-answer
@@ -20,3 +23,19 @@ returns-clause-answer g c = λ tells.
     let is = subst (λ (s : Store). chain_in s ≡ Ok (opened_as found a.0)) seen2 a.1 in
     let from = subst (λ (s : Store). IsFound found kept a.0 s) seen2 a.2 in
     (a.0, is, opened_all found kept a.0 _ _ is from (looked.seen end ∙ seen2) (λ s left. synced_files _ _ _ (first.answer.does tells) (second.answer.does mid) seen1 s ((looked.crash end s).0 left)))
+
+pub returns-in_err-sync-clause-output : goal.returns-in_err-sync-clause-output
+returns-in_err-sync-clause-output g c = λ tells. others_stay One Output _ c.sync.result _ _ one_aside tells c.sync.ensures.answer
+
+pub returns-in_err-sync-2-clause-output : goal.returns-in_err-sync-2-clause-output
+returns-in_err-sync-2-clause-output g c = λ tells. synced_output _ _ _ c.sync.result c.sync-2.result tells c.sync.ensures.answer c.sync-2.ensures.answer
+
+pub returns-in_err-found-clause-output : goal.returns-in_err-found-clause-output
+returns-in_err-found-clause-output g c = λ tells.
+    let end = subst IsTrue (sym (c.sync-2.ensures.answer.tells ∙ c.sync.ensures.answer.tells)) tells in
+    looked_output _ _ _ end (synced_output _ _ _ c.sync.result c.sync-2.result tells c.sync.ensures.answer c.sync-2.ensures.answer) c.read_store.ensures.looked
+
+pub returns-clause-output : goal.returns-clause-output
+returns-clause-output g c = λ tells.
+    let end = subst IsTrue (sym (c.sync-2.ensures.answer.tells ∙ c.sync.ensures.answer.tells)) tells in
+    looked_output _ _ _ end (synced_output _ _ _ c.sync.result c.sync-2.result tells c.sync.ensures.answer c.sync-2.ensures.answer) c.read_store.ensures.looked

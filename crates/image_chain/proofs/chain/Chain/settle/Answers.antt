@@ -1,5 +1,6 @@
 use Rattle.std.proofs.Common.{arith, subst, sym, IsTrue, []}
 use Rattle.image_chain.proofs.StartLaws.{cut_moments, is_cut, settle_moments, settled, settled_length}
+use Rattle.image_chain.proofs.OutputLaws.{step_output, steps_output}
 use Rattle.image_chain.proofs.chain.Chain.settle.Goals as goal
 
 pub returns-in_err-cut-clause-any_moment : goal.returns-in_err-cut-clause-any_moment
@@ -26,3 +27,12 @@ returns-clause-any_moment g c = λ tells rs rests.
     let cut = is_cut c.args.self.now.current _ _ _ rs rests.1.0 c.cut.result tells c.cut.ensures.answer (c.in_ok-cut.ensures.answer.does tells) rests.1.1 (omega arith) in
     let first = cut_moments c.args.self.now.current _ _ _ rs rests.1.0 c.cut.result tells (g.met.D.Disk.lawful c.args.disk.now tells) c.cut.ensures.answer rests.1.1 (omega arith) in
     settle_moments c.args.self.now.current _ _ _ rs c.sync.result tells (g.met.D.Disk.lawful c.cut.new.self mid_tells) first cut c.sync.ensures.answer
+
+pub returns-in_err-cut-clause-output : goal.returns-in_err-cut-clause-output
+returns-in_err-cut-clause-output g c = λ tells rs rests. step_output c.args.self.now.current _ _ rs _ c.cut.result tells rests.1.1.alone c.cut.ensures.answer
+
+pub returns-in_err-sync-clause-output : goal.returns-in_err-sync-clause-output
+returns-in_err-sync-clause-output g c = λ tells rs rests. steps_output c.args.self.now.current _ _ _ rs _ _ c.cut.result c.sync.result tells rests.1.1.alone c.cut.ensures.answer c.sync.ensures.answer
+
+pub returns-clause-output : goal.returns-clause-output
+returns-clause-output g c = λ tells rs rests. steps_output c.args.self.now.current _ _ _ rs _ _ c.cut.result c.sync.result tells rests.1.1.alone c.cut.ensures.answer c.sync.ensures.answer
