@@ -1,0 +1,17 @@
+//! What a program writes, on the disk.
+//!
+//! An `Output` gathers the bytes that are pushed and writes them to the output file of a store, 65,536 at a time. Contracts see
+//! where it stands as a `Pushed`, and tie it to a disk that tells its contents by `IsOutputOn`: these are all bytes from the file's
+//! front on, so many of them are lasting, and the newest are still waiting. After `flush` the file holds exactly these bytes, for
+//! reads and after each crash.
+//!
+//! Whatever a call answers, the files of images stay as reads give them and as a crash may leave them, and at no moment does a crash
+//! touch what was lasting before the call, nor anything before the length at which the output began. Where it answers Ok the disk
+//! has counted no fault.
+#![tactic(auto)]
+
+mod output;
+#[cfg(test)]
+mod tests;
+
+pub use output::Output;
