@@ -1,5 +1,5 @@
 -- Graphs whose nodes do the same have the same excluded cells.
-use Rattle.std.proofs.Common.{◌≡◌, ◌+◌, ◌<◌, ◌≤◌, Bool, true, ℕ, Option, Some, zero, suc, List, [], ◌∷◌, length, cond, refl, sym, ap, ◌∙◌, subst, arith, ⊎_elim, inl, inr, ◌||◌}
+use Rattle.std.proofs.Common.{◌≡◌, ◌+◌, ◌<◌, ◌≤◌, Bool, ℕ, Option, Some, zero, suc, List, [], ◌∷◌, length, cond, refl, sym, ap, ◌∙◌, subst, arith, ⊎_elim, inl, inr, ◌||◌}
 use Rattle.std.specs.Prelude.{slice_get}
 use Rattle.std.specs.List.{count_by}
 use Rattle.std.proofs.lemmas.List.Sums.{sum_by-cons}
@@ -10,7 +10,6 @@ use Rattle.path_laws.specs.declared.graph.Node.{Node}
 use Rattle.path_laws.specs.Edge.{is_at}
 use Rattle.path_laws.specs.Graph.{Graph, next_of, mark_of, may_read, may_write, kills, has_edge, is_checkpoint, is_exclude, is_directive, mark_is_checkpoint, mark_is_exclude, mark_is_directive, exclude_count}
 use Rattle.path_laws.specs.Walks.{IsWalkFrom, last_of, NoExclude}
-use Rattle.path_laws.specs.Reaching.{Until}
 use Rattle.path_laws.specs.Forgettable.{ReadsUnkilled, IsForgettable}
 use Rattle.cell_sets.specs.Sets.{Cells}
 use Rattle.exclusion_equations.specs.Excluded.{Leads, IsDead, WritesBefore, IsReadOnly, Sets, dead_of, read_only_of, IsExactly, AreExact}

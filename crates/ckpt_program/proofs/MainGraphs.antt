@@ -4,7 +4,6 @@ use Rattle.std.specs.Prelude.{slice_get}
 use Rattle.std.specs.Option.{option_map_or}
 use Rattle.std.proofs.lemmas.Option.{slice_get_cases, slice_get_past, slice_get_within}
 use Rattle.std.proofs.lemmas.Bool.Decides.{same_from_decides}
-use Rattle.path_laws.specs.declared.graph.Mark.{Mark}
 use Rattle.path_laws.specs.declared.graph.Mark.TheVariants.{Plain}
 use Rattle.path_laws.specs.declared.graph.Node.{Node}
 use Rattle.path_laws.specs.Graph.{Graph, next_of, mark_of, may_read, may_write, kills, mark_is_exclude, exclude_count}
@@ -21,7 +20,7 @@ use Rattle.c_tree.specs.Checked.{IsChecked}
 use Rattle.flow_graph.proofs.Joins.{graph_is_joined}
 use Rattle.exclusion_equations.specs.Excluded.{Sets, AreExact}
 use Rattle.ckpt_program.specs.Report.{directives_text, IsReport}
-use Rattle.ckpt_program.proofs.AlikeGraphs.{AreJoinedAlike, TreatAlike, counted_alike, exact_alike}
+use Rattle.ckpt_program.proofs.AlikeGraphs.{counted_alike, exact_alike}
 
 -- what two graphs have at a node
 record SameNode (p : Resolved) (g h : Graph) (n : ℕ) : Type 0 where

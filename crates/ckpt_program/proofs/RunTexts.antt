@@ -1,10 +1,9 @@
 -- The names of runs, place by place.
-use Rattle.std.proofs.Common.{◌≡◌, ◌<◌, ◌+◌, ◌-◌, Bool, true, false, ℕ, zero, suc, List, [], ◌∷◌, ◌++◌, length, Option, Some, None, refl, sym, ap, ◌∙◌, arith, append_assoc}
-use Rattle.std.specs.Prelude.{unwrap_or}
+use Rattle.std.proofs.Common.{◌≡◌, ◌<◌, ◌+◌, ◌-◌, Bool, ℕ, suc, List, ◌++◌, Option, ap, ◌∙◌, arith, append_assoc}
 use Rattle.c_tree.specs.declared.resolved.RObject.{RObject}
 use Rattle.c_tree.specs.declared.resolved.Resolved.{Resolved}
-use Rattle.cell_sets.specs.Sets.{Cells, has}
-use Rattle.ckpt_program.specs.Report.{Run, over, runs_from, places_of, runs_text, local_text, locals_text}
+use Rattle.cell_sets.specs.Sets.{Cells}
+use Rattle.ckpt_program.specs.Report.{Run, runs_from, runs_text, local_text, locals_text}
 
 -- one of the places of an object that are left
 pub next_of_many : (t : ℕ → Bool) (many place : ℕ) (begun : Option ℕ) → place < many → runs_from t (suc (many - (place + 1))) place begun ≡ runs_from t (many - place) place begun
