@@ -1,5 +1,5 @@
 -- What a command comes to, from the outcomes of its parts.
-use Rattle.std.proofs.Common.{◌≡◌, ◌∙◌, sym, ap, subst, ⊎_elim, inl, inr, ℕ, List, IsTrue}
+use Rattle.std.proofs.Common.{◌≡◌, ◌∙◌, refl, sym, ap, subst, ⊎_elim, inl, inr, ℕ, List, IsTrue}
 use Rattle.ckpt_base.specs.Faults.{Rose}
 use Rattle.ckpt_base.specs.Shelf.{ShelfView, SameShelf, File, file_named}
 use Rattle.c_tree.specs.declared.resolved.Resolved.{Resolved}
@@ -7,7 +7,7 @@ use Rattle.ckpt_program.specs.declared.outcome.Counts.{Counts}
 use Rattle.ckpt_program.specs.declared.outcome.Outcome.{Outcome}
 use Rattle.ckpt_program.specs.declared.outcome.Outcome.TheVariants as outcome
 use Rattle.ckpt_program.specs.declared.outcome.Document.TheVariants as document
-use Rattle.ckpt_program.specs.Words.{Command, Plain, Check, Compile, Report, command_of}
+use Rattle.ckpt_program.specs.Words.{Command, Plain, Check, Compile, Report, Unknown, command_of}
 use Rattle.ckpt_program.specs.Listed.{IsListing}
 use Rattle.ckpt_program.specs.Report.{IsReport}
 use Rattle.ckpt_program.specs.Fetched.{Gives, Lacks, IsTooLong}
@@ -50,6 +50,9 @@ pub printed : (IsText : Resolved → List ℕ → Type 0) (source : List ℕ) (h
 printed IsText source held tree old new text same has kept is = ((tree, has, subst (λ (t : Resolved). IsText t text) same is), kept)
 
 -- ---- a command
+
+pub unknown_comes : (words : List (List ℕ)) (v : ShelfView) → Unknown ≡ command_of words → Comes words v v outcome.Usage
+unknown_comes words v is = subst (λ (command : Command). Carries command v v outcome.Usage) is refl
 
 pub plain_comes : (words : List (List ℕ)) (source input : List ℕ) (until : ℕ) (old new : ShelfView) (o : Outcome) → Plain source input until ≡ command_of words → Evaluates source input until old new o → Comes words old new o
 plain_comes words source input until old new o is comes = subst (λ (command : Command). Carries command old new o) is (carried source input until old new o comes)

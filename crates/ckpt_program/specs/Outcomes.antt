@@ -106,7 +106,7 @@ Evaluates source input until old new o = FailsSource source old new o ⊎ ((tree
 -- What a command comes to: usage exactly where there is none. Want of memory may come in place of anything.
 abbrev pub Carries : Command → ShelfView → ShelfView → Outcome → Type 0
 Carries command old new outcome.NoMemory = Unit {0}
-Carries Unknown old new outcome.Usage = Unit {0}
+Carries Unknown old new outcome.Usage = new.faults ≡ old.faults
 Carries Unknown old new _ = ⊥
 Carries (Plain source input until) old new outcome.Usage = ⊥
 Carries (Plain source input until) old new o = Evaluates source input until old new o

@@ -98,7 +98,7 @@ values_few (e ∷ es) = omega (arith, (expr_small e).0, values_few es, parts_con
 -- at most so many instructions
 abbrev pub work_limit : NodeWork → ℕ
 work_limit (work.Declare d e) = 16 * (1 + place_parts d + some_parts e)
-work_limit (work.Set d e) = 16 * (1 + place_parts d + expr_parts e)
+work_limit (work.Set d e) = 16 * (place_parts d + expr_parts e)
 work_limit (work.Call d f es) = 16 * (1 + kept_parts d + all_parts es)
 work_limit (work.Input d) = 16 * (1 + kept_parts d)
 work_limit (work.Return e) = 16 * (1 + expr_parts e)
@@ -116,6 +116,11 @@ set_small (place.At e) b n h q =
     let x = expr_block e q in
     let q1 = q + length x in
     omega (arith, length-append (x ++ b q1) (instr.Put ∷ []), length-append x (b q1), (expr_small e).1 q, h q1)
+
+place_some : (d : RPlace) → 1 ≤ place_parts d
+place_some (place.Cell c) = omega arith
+place_some (place.Local i) = omega arith
+place_some (place.At e) = omega arith
 
 given_small : (e : Option RExpr) (q : ℕ) → length (given_block e q) ≤ 4 * some_parts e + 1
 given_small None q = omega arith
@@ -158,7 +163,7 @@ module _ (w : Rules) (st : ℕ → ℕ) (m : ℕ) (to : Edge) where
       omega (arith, length-append b (go_on st m to.0), set_small d (given_block e) (4 * some_parts e + 1) (given_small e) (q + 1), go_on_small st m to.0)
   segment_small (work.Set d e) h q =
       let b = set_block d (expr_block e) (q + 1) in
-      omega (arith, length-append b (go_on st m to.0), set_small d (expr_block e) (4 * expr_parts e) (expr_small e).1 (q + 1), go_on_small st m to.0)
+      omega (arith, length-append b (go_on st m to.0), set_small d (expr_block e) (4 * expr_parts e) (expr_small e).1 (q + 1), go_on_small st m to.0, place_some d, (expr_small e).0)
   segment_small (work.Call d f es) h q =
       let b = values_block es (q + 1) in
       omega (arith, length-append b (instr.Call f ∷ (keep_answer d ++ go_on st m to.0)), length-append (keep_answer d) (go_on st m to.0), values_small es (q + 1), keep_small d, go_on_small st m to.0)

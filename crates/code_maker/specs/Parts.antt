@@ -45,8 +45,9 @@ abbrev pub kept_parts : Option RPlace → ℕ
 kept_parts None = 0
 kept_parts (Some d) = place_parts d
 
+-- an assignment in the head of a `for` is no statement of its own
 abbrev pub assign_parts : RAssign → ℕ
-assign_parts a = 1 + place_parts a.place + expr_parts a.value
+assign_parts a = place_parts a.place + expr_parts a.value
 
 abbrev pub update_parts : Option RAssign → ℕ
 update_parts None = 0
@@ -54,7 +55,7 @@ update_parts (Some a) = assign_parts a
 
 abbrev pub init_parts : Option RInit → ℕ
 init_parts None = 0
-init_parts (Some (init.Declare a)) = assign_parts a
+init_parts (Some (init.Declare a)) = 1 + assign_parts a
 init_parts (Some (init.Set a)) = assign_parts a
 
 -- statements, declared names, expressions and places of a statement, itself included
@@ -81,7 +82,7 @@ arm_parts_at a = expr_parts a.test + a.body
 abbrev pub stmt_parts : RStmt → ℕ
 stmt_parts = fold-RStmt ℕ ℕ stmt_parts_at arm_parts_at
 
--- the bytes that a print writes itself, and its holes
+-- the bytes that a print writes itself; its holes are counted with its values
 abbrev pub bytes_in : List PrintPiece → ℕ
 bytes_in [] = 0
 bytes_in (print.Byte b ∷ ps) = 1 + bytes_in ps

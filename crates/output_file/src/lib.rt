@@ -5,9 +5,9 @@
 //! front on, so many of them are lasting, and the newest are still waiting. After `flush` the file holds exactly these bytes, for
 //! reads and after each crash.
 //!
-//! Whatever a call answers, the files of images stay as reads give them and as a crash may leave them, and at no moment does a crash
-//! touch what was lasting before the call, nor anything before the length at which the output began. Where it answers Ok the disk
-//! has counted no fault.
+//! Whatever a call answers, the image files read as before, and a crash may leave of them what it might have left before. At no moment
+//! of a push or a flush does a crash touch what was lasting before, nor one of a begin what stands before its length. Where a call
+//! answers Ok the disk has counted no fault.
 #![tactic(auto)]
 
 mod output;

@@ -3,11 +3,11 @@ pub mod Homes
 pub mod Memory
 pub mod Moved
 pub mod Rank
+pub mod ToGo
 pub mod RunOnLaws
 pub mod Shows
 pub mod OneTurn
 pub mod Stays
 pub mod OneStep
-pub mod ToGo
 pub mod Tops
 pub mod Tells

@@ -14,7 +14,7 @@ use Rattle.paged_machine.specs.MachineView.{MachineView, live_after}
 use Rattle.paged_machine.specs.Standing.{StandsBy}
 use Rattle.paged_machine.specs.Rank.{Falls}
 use Rattle.paged_machine.specs.RunOn.{GoesOn, telling, ticks_of}
-use Rattle.paged_machine.specs.Stepped.{Stepped, DoneBy}
+use Rattle.paged_machine.specs.Stepped.{Stepped, DoneBy, Still}
 use Rattle.paged_machine.proofs.Memory.{row_spares}
 use Rattle.paged_machine.proofs.Rank.{falls, limited}
 use Rattle.paged_machine.proofs.Stays.{stays, stands_there}
@@ -60,6 +60,7 @@ did_row c pages ds v w m n i e fit alive at did =
       fault = λ p q. let on : protected p ≡ true = subst (Tells protected i) q tells in (is_there pages p on, on);
       falls = fall;
       limited = limited c w.state stands.calls;
+      still = subst (λ x. Still x v.state m w.state n) (sym event) (subst (λ (t : State). Still d.event v.state m t n) (sym state) (subst (λ y. Still d.event v.state m d.state y) (sym memory) shows.still));
       ticked = ap (λ (t : State). t.ticks) state ∙ shows.ticks ∙ ap (λ x. v.state.ticks + ticks_of x) (sym event);
       shows = subst (λ x. GoesOn c protected v.state m (telling x) w.state n) (sym event)
           (goes_on c protected v.state m d.event w.state n d.shown

@@ -11,9 +11,12 @@ use Rattle.machine_code.specs.declared.event.Event.TheVariants.{Ran, Ticked, Wri
 use Rattle.machine_code.specs.CodeView.{CodeView}
 use Rattle.machine_code.specs.State.{State}
 use Rattle.machine_code.specs.Run.{World, world, next_row, Reaches}
-use Rattle.paged_machine.specs.RunOn.{AreStores, Answers, GoesOn, told_by, told, telling, ticks_of, live_behind}
+use Rattle.paged_machine.specs.RunOn.{AreStores, Answers, Behind, GoesOn, told_by, told, telling, ticks_of, live_behind}
 use Rattle.paged_machine.specs.Standing.{StandsIn}
-use Rattle.paged_machine.specs.Stepped.{Stepped}
+use Rattle.paged_machine.specs.Stepped.{Stepped, Still}
+use Rattle.paged_machine.specs.Rest.{rest, Shrinks}
+use Rattle.paged_machine.proofs.ToGo.{leaves, shrinks_on}
+use Rattle.machine_code.specs.Row.{Done}
 use Rattle.paged_machine.specs.MachineView.{MachineView, live_after}
 use Rattle.paged_machine.proofs.Tells.{ticked_at}
 use Rattle.paged_machine.proofs.Shows.{ShownBy, no_stores, both_stores}
@@ -72,17 +75,29 @@ live_as_told (Exclude k) = refl
 live_as_told (Ended v) = refl
 live_as_told (Trapped k) = refl
 
-pub answers : (c : CodeView) (pages : PageStates) (t : State) (e : Event) → (e ≡ WantsInput → slice_get c.instrs t.place ≡ Some In) → ((p : ℕ) → e ≡ WriteFault p → (p < length pages.dirty) × (is_protected pages p ≡ true)) → Answers c pages t (telling e)
-answers c pages t Ran asked fault = tt
-answers c pages t Ticked asked fault = tt
-answers c pages t (WriteFault p) asked fault = fault p refl
-answers c pages t (Out b) asked fault = tt
-answers c pages t (OutNumber v) asked fault = tt
-answers c pages t WantsInput asked fault = asked refl
-answers c pages t (Checkpoint k) asked fault = tt
-answers c pages t (Exclude k) asked fault = tt
-answers c pages t (Ended v) asked fault = tt
-answers c pages t (Trapped k) asked fault = tt
+pub answers : (c : CodeView) (pages : PageStates) (s t : State) (m n : List ℕ) (e : Event) → e ≡ (next_row c (is_protected pages) s m).event → t ≡ (next_row c (is_protected pages) s m).state → n ≡ (next_row c (is_protected pages) s m).memory → Still e s m t n → (e ≡ WantsInput → slice_get c.instrs t.place ≡ Some In) → ((p : ℕ) → e ≡ WriteFault p → (p < length pages.dirty) × (is_protected pages p ≡ true)) → Answers c pages t n (telling e)
+answers c pages s t m n e is state memory still asked fault = by_event e is still asked fault
+  where
+    row_of : State → List ℕ → Done
+    row_of x y = next_row c (is_protected pages) x y
+
+    behind : (f : Event) → f ≡ (row_of s m).event → Behind c (is_protected pages) f t n
+    behind f g = record { before = s; memory = m; event = sym g; state = sym state; cells = sym memory }
+
+    here : (f : Event) → f ≡ (row_of s m).event → (t ≡ s) × (n ≡ m) → (row_of t n).event ≡ f
+    here f g same = ap (λ (x : State). (row_of x n).event) same.0 ∙ ap (λ y. (row_of s y).event) same.1 ∙ sym g
+
+    by_event : (f : Event) → f ≡ (row_of s m).event → Still f s m t n → (f ≡ WantsInput → slice_get c.instrs t.place ≡ Some In) → ((p : ℕ) → f ≡ WriteFault p → (p < length pages.dirty) × (is_protected pages p ≡ true)) → Answers c pages t n (telling f)
+    by_event Ran g same asked fault = tt
+    by_event Ticked g same asked fault = tt
+    by_event (WriteFault p) g same asked fault = ((fault p refl).0, here (WriteFault p) g same)
+    by_event (Out b) g same asked fault = behind (Out b) g
+    by_event (OutNumber v) g same asked fault = behind (OutNumber v) g
+    by_event WantsInput g same asked fault = asked refl
+    by_event (Checkpoint k) g same asked fault = behind (Checkpoint k) g
+    by_event (Exclude k) g same asked fault = behind (Exclude k) g
+    by_event (Ended v) g same asked fault = here (Ended v) g same
+    by_event (Trapped k) g same asked fault = here (Trapped k) g same
 
 -- no tick is taken past the bound
 pub within_bound : (c : CodeView) (protected : ℕ → Bool) (s : State) (m : List ℕ) (first until now : ℕ) (e : Event) → e ≡ (next_row c protected s m).event → (slice_get c.instrs s.place ≡ Some Tick → s.ticks < until) → now ≡ s.ticks + ticks_of e → s.ticks ≤ max first until → now ≤ max first until
@@ -105,8 +120,12 @@ pub record Holds (c : CodeView) (pages : PageStates) (until : ℕ) (v : MachineV
   pub spared : (cell : ℕ) → is_protected pages (cell / 512) ≡ true → slice_index n cell ≡ slice_index m cell
   pub within : w.state.ticks ≤ max v.state.ticks until
   pub goes : GoesOn c (is_protected pages) v.state m (told last) w.state n
-  pub answer : Answers c pages w.state (told last)
+  pub answer : Answers c pages w.state n (told last)
+  pub shrinks : Shrinks c until v.state last w.state
   pub stopped : last ≡ None → (slice_get c.instrs w.state.place ≡ Some Tick) × (until ≤ w.state.ticks)
+
+refl_le : (n : ℕ) → n ≤ n
+refl_le n = omega arith
 
 -- before the first instruction
 pub first_holds : (c : CodeView) (pages : PageStates) (until : ℕ) (v : MachineView) (m : List ℕ) → v.live ≡ true → StandsIn c v → Holds c pages until v m (Some Ran) v m
@@ -118,6 +137,7 @@ first_holds c pages until v m live stands = record {
   within = le-max_left v.state.ticks until;
   goes = stays_here c (is_protected pages) v.state m;
   answer = tt;
+  shrinks = refl_le (rest c until v.state);
   stopped = λ e. absurd (let f : Some Ran ≡ None = e in cc);
 }
 
@@ -125,9 +145,12 @@ module _ (c : CodeView) (pages : PageStates) (until : ℕ) (v : MachineView) (m 
   told_none : (last : Option Event) → ((last ≡ Some Ran) ⊎ (last ≡ Some Ticked)) → told last ≡ None
   told_none last on = ⊎_elim (λ e. ap told e) (λ e. ap told e) on
 
+  no_more : (last : Option Event) → ((last ≡ Some Ran) ⊎ (last ≡ Some Ticked)) → Shrinks c until v.state last w.state → rest c until w.state ≤ rest c until v.state
+  no_more last on h = ⊎_elim (λ e. subst (λ x. Shrinks c until v.state x w.state) e h) (λ e. subst (λ x. Shrinks c until v.state x w.state) e h) on
+
   -- the run stopped before a tick
-  stopped_holds : (last : Option Event) → told last ≡ None → Holds c pages until v m last w n → (slice_get c.instrs w.state.place ≡ Some Tick) × (until ≤ w.state.ticks) → Holds c pages until v m None w n
-  stopped_holds last none held at = record {
+  stopped_holds : (last : Option Event) → ((last ≡ Some Ran) ⊎ (last ≡ Some Ticked)) → told last ≡ None → Holds c pages until v m last w n → (slice_get c.instrs w.state.place ≡ Some Tick) × (until ≤ w.state.ticks) → Holds c pages until v m None w n
+  stopped_holds last on none held at = record {
     live = held.live ∙ ap live_behind none;
     stands = held.stands;
     size = held.size;
@@ -135,6 +158,7 @@ module _ (c : CodeView) (pages : PageStates) (until : ℕ) (v : MachineView) (m 
     within = held.within;
     goes = subst (λ a. GoesOn c (is_protected pages) v.state m a w.state n) none held.goes;
     answer = tt;
+    shrinks = no_more last on held.shrinks;
     stopped = λ e. at;
   }
 
@@ -142,7 +166,7 @@ module _ (c : CodeView) (pages : PageStates) (until : ℕ) (v : MachineView) (m 
   pub holds_after : (last : Option Event) → ((last ≡ Some Ran) ⊎ (last ≡ Some Ticked)) → Holds c pages until v m last w n → (now : Option Event) (x : MachineView) (k : List ℕ) → IfSome now (λ e. Stepped c pages w n e x k) → IfSome now (λ e. slice_get c.instrs w.state.place ≡ Some Tick → w.state.ticks < until) → (IsNone now → (slice_get c.instrs w.state.place ≡ Some Tick) × (until ≤ w.state.ticks) × (x ≡ w) × (k ≡ n)) → Holds c pages until v m now x k
   holds_after last on held None x k did below stop =
       let at = stop refl in
-      subst (λ y. Holds c pages until v m None y k) (sym at.2) (subst (λ y. Holds c pages until v m None w y) (sym at.3) (stopped_holds last (told_none last on) held (at.0, at.1)))
+      subst (λ y. Holds c pages until v m None y k) (sym at.2) (subst (λ y. Holds c pages until v m None w y) (sym at.3) (stopped_holds last on (told_none last on) held (at.0, at.1)))
   holds_after last on held (Some e) x k did below stop = record {
     live = did.live ∙ live_as_told e;
     stands = did.stands;
@@ -150,6 +174,7 @@ module _ (c : CodeView) (pages : PageStates) (until : ℕ) (v : MachineView) (m 
     spared = λ cell p. did.spared cell p ∙ held.spared cell p;
     within = within_bound c (is_protected pages) w.state n v.state.ticks until x.state.ticks e did.event below did.ticked held.within;
     goes = goes_further c (is_protected pages) v.state m w.state n (telling e) x.state k (subst (λ a. GoesOn c (is_protected pages) v.state m a w.state n) (told_none last on) held.goes) did.shows;
-    answer = answers c pages x.state e did.asked did.fault;
+    answer = answers c pages w.state x.state n k e did.event did.state did.memory did.still did.asked did.fault;
+    shrinks = shrinks_on c until (is_protected pages) w.state n x.state v.state (no_more last on held.shrinks) e (leaves c until (is_protected pages) w.state n x.state e did.event below did.falls did.ticked did.limited);
     stopped = λ f. absurd (let g : Some e ≡ None = f in cc);
   }

@@ -6,6 +6,8 @@ pub mod Standing
 pub mod Fitting
 -- how far a machine is from its next tick
 pub mod Rank
+-- how much is left of a run of instructions to a bound
+pub mod Rest
 -- what a run of instructions shows
 pub mod RunOn
 -- what one instruction did

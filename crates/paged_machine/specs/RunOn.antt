@@ -9,7 +9,7 @@ use Rattle.machine_code.specs.declared.instr.Instr.TheVariants.{In}
 use Rattle.dirty_pages.specs.Pages.{PageStates, is_protected}
 use Rattle.machine_code.specs.CodeView.{CodeView}
 use Rattle.machine_code.specs.State.{State}
-use Rattle.machine_code.specs.Run.{World, world, Reaches}
+use Rattle.machine_code.specs.Run.{World, world, next_row, Reaches}
 
 -- how many ticks an instruction took that answered this
 abbrev pub ticks_of : Event → ℕ
@@ -44,13 +44,24 @@ pub record GoesOn (c : CodeView) (protected : ℕ → Bool) (s : State) (m : Lis
   pub unprotected : AreStores protected stores
   pub reaches : (w : World) (input : List ℕ) (events : List run.Event) → Reaches c w (world s m input events) → Reaches c w (world t n input (events ++ (stores ++ told_by t.ticks answer)))
 
--- what holds where a run of instructions answers: it asks for input at In alone, and for a page that is there and protected, and never answers what it goes on over
-abbrev pub Answers : CodeView → PageStates → State → Option Event → Type 0
-Answers c pages t (Some WantsInput) = slice_get c.instrs t.place ≡ Some In
-Answers c pages t (Some (WriteFault p)) = (p < length pages.dirty) × (is_protected pages p ≡ true)
-Answers c pages t (Some Ran) = ⊥
-Answers c pages t (Some Ticked) = ⊥
-Answers c pages t answer = Unit {0}
+-- the last instruction answered this, and left the machine so
+pub record Behind (c : CodeView) (protected : ℕ → Bool) (e : Event) (t : State) (n : List ℕ) : Type 0 where
+  pub before : State
+  pub memory : List ℕ
+  pub event : (next_row c protected before memory).event ≡ e
+  pub state : (next_row c protected before memory).state ≡ t
+  pub cells : (next_row c protected before memory).memory ≡ n
+
+-- what holds where a run of instructions answers: the machine stands before the instruction that ends the program, traps, would write a protected page or asks for input, and behind any other that tells something
+abbrev pub Answers : CodeView → PageStates → State → List ℕ → Option Event → Type 0
+Answers c pages t n None = Unit {0}
+Answers c pages t n (Some Ran) = ⊥
+Answers c pages t n (Some Ticked) = ⊥
+Answers c pages t n (Some WantsInput) = slice_get c.instrs t.place ≡ Some In
+Answers c pages t n (Some (WriteFault p)) = (p < length pages.dirty) × ((next_row c (is_protected pages) t n).event ≡ WriteFault p)
+Answers c pages t n (Some (Ended v)) = (next_row c (is_protected pages) t n).event ≡ Ended v
+Answers c pages t n (Some (Trapped k)) = (next_row c (is_protected pages) t n).event ≡ Trapped k
+Answers c pages t n (Some e) = Behind c (is_protected pages) e t n
 
 -- whether a machine that was live still is
 abbrev pub live_behind : Option Event → Bool

@@ -4,8 +4,9 @@ use Rattle.ckpt_base.specs.Event as run
 use Rattle.dirty_pages.specs.Pages.{PageStates, is_protected}
 use Rattle.machine_code.specs.declared.instr.Instr.TheVariants.{In}
 use Rattle.machine_code.specs.declared.event.Event.{Event}
-use Rattle.machine_code.specs.declared.event.Event.TheVariants.{WriteFault, WantsInput}
+use Rattle.machine_code.specs.declared.event.Event.TheVariants.{WriteFault, WantsInput, Ended, Trapped}
 use Rattle.machine_code.specs.CodeView.{CodeView}
+use Rattle.machine_code.specs.State.{State}
 use Rattle.machine_code.specs.Row.{Done}
 use Rattle.machine_code.specs.Run.{World, world, next_row, Reaches}
 use Rattle.paged_machine.specs.MachineView.{MachineView, live_after, after_done}
@@ -16,6 +17,14 @@ use Rattle.paged_machine.specs.RunOn.{GoesOn, telling, ticks_of}
 -- a row was done: this is the machine after it, the memory, and what the machine answers
 abbrev pub DoneBy : Done → MachineView → MachineView → List ℕ → Event → Type 0
 DoneBy d v w n e = (w ≡ after_done v d) × (n ≡ d.memory) × (e ≡ d.event)
+
+-- a fault, a wanted input, the end and a trap leave everything as it is
+abbrev pub Still : Event → State → List ℕ → State → List ℕ → Type 0
+Still (WriteFault p) s m t n = (t ≡ s) × (n ≡ m)
+Still WantsInput s m t n = (t ≡ s) × (n ≡ m)
+Still (Ended v) s m t n = (t ≡ s) × (n ≡ m)
+Still (Trapped k) s m t n = (t ≡ s) × (n ≡ m)
+Still e s m t n = Unit {0}
 
 -- the machine v over the memory m did the row of its next instruction, which answers e, and stands as w over n
 pub record Stepped (c : CodeView) (pages : PageStates) (v : MachineView) (m : List ℕ) (e : Event) (w : MachineView) (n : List ℕ) : Type 0 where
@@ -31,5 +40,6 @@ pub record Stepped (c : CodeView) (pages : PageStates) (v : MachineView) (m : Li
   pub fault : (p : ℕ) → e ≡ WriteFault p → (p < length pages.dirty) × (is_protected pages p ≡ true)
   pub falls : Falls c v.state e w.state
   pub limited : rank c w.state ≤ rank_limit c
+  pub still : Still e v.state m w.state n
   pub ticked : w.state.ticks ≡ v.state.ticks + ticks_of e
   pub shows : GoesOn c (is_protected pages) v.state m (telling e) w.state n

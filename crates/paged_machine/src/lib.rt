@@ -6,7 +6,7 @@
 //! code already says. `Steps` counts the ticks, and takes no bytes.
 //!
 //! The layer above drives the machine by two clauses of `step`: `reaches`, that steps (with faults served between) are a run of rows over a plain
-//! memory, and `falls`, that each comes nearer to a tick.
+//! memory, and `falls`, that each comes nearer to a tick; or by `run_on`, which does as many as tell nothing.
 #![tactic(auto)]
 
 mod machine;

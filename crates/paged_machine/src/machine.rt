@@ -19,6 +19,7 @@ ghost use Rattle.paged_machine.specs.Fitting.{FitTogether};
 ghost use Rattle.paged_machine.specs.Rank.{Nearer, Falls, rank, rank_limit};
 ghost use Rattle.paged_machine.specs.Ready.{Ready, CallFits, IsCell};
 ghost use Rattle.paged_machine.specs.RunOn as spec;
+ghost use Rattle.paged_machine.specs.Rest.{Shrinks, rest};
 ghost use Rattle.paged_machine.specs.Stepped.{Stepped, DoneBy};
 ghost use Rattle.paged_machine.specs.RunOn.{Answers, GoesOn, ticks_of, live_behind};
 
@@ -140,7 +141,8 @@ impl Machine {
     /// Does instructions one after another, until one answers something else than `Ran` or `Ticked`: that is the answer. None comes exactly where
     /// the next instruction would take a tick and `until` were taken already.
     ///
-    /// It is the run of `step`s, and faster: nothing is tested between two instructions.
+    /// It is the run of `step`s, in one call. After each answer less is left of the run to `until`, but after a write fault or a wanted input,
+    /// which its caller serves.
     #[inline(always)]
     pub fn run_on<L: Ledger>(
         &mut self,
@@ -161,7 +163,8 @@ impl Machine {
         ensures within { self.new.state.ticks ≤ max self.old.state.ticks until }
         ensures stopped { result ≡ None → (slice_get code.now.instrs self.new.state.place ≡ Some Instr.Tick) × (until ≤ self.new.state.ticks) }
         ensures goes { GoesOn code.now (is_protected pages.now) self.old.state frames.old result self.new.state frames.new }
-        ensures answer { Answers code.now pages.now self.new.state result }
+        ensures answer { Answers code.now pages.now self.new.state frames.new result }
+        ensures shrinks { Shrinks code.now until self.old.state result self.new.state }
     {
         let mut last = Some(Event::Ran);
         'turns: while goes_on(last) {
@@ -179,6 +182,7 @@ impl Machine {
         ensures stands { StandsIn code.now self.new }
         ensures falls { Nearer code.now self.old.state self.new.state }
         ensures limited { rank code.now self.new.state ≤ rank_limit code.now }
+        ensures shrinks { (until : ℕ) → rest code.now until self.new.state < rest code.now until self.old.state }
     {
         prove!(self.place < code.len());
         self.push(word::word_of(v));

@@ -5,7 +5,7 @@ ghost use Rattle.std.specs.Prelude.{◌≡◌, ◌+◌, ◌<◌};
 use std::marker::Model;
 use std::sync::ledger::{Blank, Book, Ledger, Share};
 
-/// How many ticks were taken. It takes no bytes at run time, and only `Machine::step` raises it. Contracts see one number.
+/// How many ticks were taken. It takes no bytes at run time, and only `Machine::step` and `Machine::run_on` raise it. Contracts see one number.
 #[derive(Drop)]
 pub struct Steps<L: Ledger> {
     book: Book<L>,

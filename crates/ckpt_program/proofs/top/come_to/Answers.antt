@@ -1,4 +1,4 @@
-use Rattle.ckpt_program.proofs.Carrying.{plain_comes, check_comes, compile_comes, report_comes}
+use Rattle.ckpt_program.proofs.Carrying.{unknown_comes, plain_comes, check_comes, compile_comes, report_comes}
 use Rattle.ckpt_program.proofs.top.come_to.Goals as goal
 
 pub returns-in-Plain-clause-answer : goal.returns-in-Plain-clause-answer
@@ -12,3 +12,6 @@ returns-in-Compile-clause-answer g c = compile_comes c.args.words.now c.in-Compi
 
 pub returns-in-Report-clause-answer : goal.returns-in-Report-clause-answer
 returns-in-Report-clause-answer g c = report_comes c.args.words.now c.in-Report.source.now (g.H.Shelf.view c.args.shelf.now) (g.H.Shelf.view c.report_sets.new.shelf) c.report_sets.result c.in-Report.ensures.answer c.report_sets.ensures.answer
+
+pub returns-in-Unknown-clause-answer : goal.returns-in-Unknown-clause-answer
+returns-in-Unknown-clause-answer g c = unknown_comes c.args.words.now (g.H.Shelf.view c.args.shelf.now) c.in-Unknown.ensures.answer

@@ -4,6 +4,8 @@ use Rattle.paged_machine.specs.MachineView.{MachineView}
 use Rattle.paged_machine.specs.Standing.{StandsBy}
 use Rattle.paged_machine.specs.Rank.{Nearer}
 use Rattle.paged_machine.proofs.Rank.{nearer_given, limited}
+use Rattle.machine_code.specs.State.{State}
+use Rattle.paged_machine.proofs.ToGo.{given_shrinks}
 use Rattle.paged_machine.proofs.Stays.{stands_there, given_fits, has, room_for}
 use Rattle.paged_machine.proofs.machine.Machine.give.Goals as goal
 
@@ -27,3 +29,11 @@ returns-clause-falls c =
 pub returns-clause-limited : goal.returns-clause-limited
 returns-clause-limited c =
     limited c.args.code.now c.push.new.self.state (omega (arith, c.requires.stands.1.calls, ap (λ (w : MachineView). length w.state.callers) c.push.ensures.machine))
+
+pub returns-clause-shrinks : goal.returns-clause-shrinks
+returns-clause-shrinks c = λ until.
+    let code = c.args.code.now in
+    let v = c.args.self.now in
+    let state = ap (λ (w : MachineView). w.state) c.push.ensures.machine in
+    given_shrinks code until v.state c.push.new.self.state c.requires.asked (ap (λ (s : State). s.ticks) state)
+    (subst (Nearer code v.state) (sym state) (nearer_given code v.state 0 c.word_of.result c.requires.stands.1.here.within))
