@@ -1,9 +1,10 @@
 -- An append goes on from step to step.
-use Rattle.std.proofs.Common.{◌≡◌, ◌≢◌, Bool, true, false, cond, nat_lt, inl, inr, refl, sym, ◌∙◌, ap, subst, ℕ, ◌+◌, ◌-◌, ◌*◌, ◌<◌, ◌≤◌, IsTrue, List, length, take, Result, Ok, arith}
+use Rattle.std.proofs.Common.{◌≡◌, ◌≢◌, Bool, true, false, cond, nat_lt, inl, inr, ◌⊎◌, ⊎_elim, refl, sym, ◌∙◌, ap, subst, ℕ, ◌+◌, ◌-◌, ◌*◌, ◌<◌, ◌≤◌, IsTrue, List, [], ◌∷◌, ◌++◌, length, take, Result, Ok, arith}
 use Rattle.std.proofs.lemmas.Bool.{cases_lt}
+use Rattle.std.proofs.lemmas.List.{length_push}
 use Rattle.std.proofs.lemmas.Bool.Decides.{nat_tests}
 use Rattle.ckpt_base.specs.declared.errors.Failed.{Failed}
-use Rattle.disk_model.specs.Store.{Store}
+use Rattle.disk_model.specs.Store.{Store, file_of}
 use Rattle.disk_model.specs.declared.disk_file.DiskFile.TheVariants.{Output}
 use Rattle.disk_model.specs.View.{View, IsDisk, SameFile}
 use Rattle.disk_model.specs.Moments.{Among, LeavesOnly}
@@ -12,11 +13,11 @@ use Rattle.image_format.specs.Image.{Image}
 use Rattle.image_chain.specs.declared.chain.Current.{Current}
 use Rattle.image_chain.specs.declared.chain.Step.{Step}
 use Rattle.image_chain.specs.declared.chain.Step.TheVariants.{Piece, SyncRecord, OpenGate, SyncGate, Done}
-use Rattle.image_chain.specs.Append.{front, IsAtRest, IsDue, Stands, Spells, IsInside, IsInsideOrDone, SameCurrent, TakesOver, IfLast, next_of, due_after, left_to_do}
+use Rattle.image_chain.specs.Append.{header_of, front, other, Keeps, Alone, IsAtRest, IsDue, Stands, Spells, IsInside, IsInsideOrDone, SameCurrent, TakesOver, IfLast, next_of, due_after, left_to_do}
 use Rattle.image_chain.specs.Lists.{Lists, IsAppended, IsLeftIn, Makes, SoFar}
-use Rattle.image_chain.proofs.ListLaws.{holds_of, lists_of}
+use Rattle.image_chain.proofs.ListLaws.{Holds, holds_of, lists_of}
 use Rattle.image_chain.proofs.OutputLaws.{same_output}
-use Rattle.image_chain.proofs.StepLaws.{front_and_gate}
+use Rattle.image_chain.proofs.StepLaws.{IsBefore, front_and_gate, current_twice, kept_gate, torn_list, aside_more, reads_list, reads_more}
 
 lt-yes : (a b : ℕ) → a < b → nat_lt a b ≡ true
 lt-yes a b less = grind (arith, nat_tests)
@@ -33,11 +34,11 @@ stands_due chain v rs r image Done n inside due = absurd inside
 
 -- each outcome of one step, after what the steps before left
 after_appended : (at : Step) (chain : Current) (rs : List Image) (r : Image) (first d s : Store) → IsAppended chain rs r first d → IsLeftIn at chain rs r d s → IsAppended chain rs r first s
-after_appended (Piece i) chain rs r first d s was is = (inl is.0, is.1 ∙ was.1)
-after_appended SyncRecord chain rs r first d s was is = (inl is.0, is.1 ∙ was.1)
-after_appended OpenGate chain rs r first d s was is = (is.0, is.1 ∙ was.1)
-after_appended SyncGate chain rs r first d s was is = (is.0, is.1 ∙ was.1)
-after_appended Done chain rs r first d s was is = (inl is.0, is.1 ∙ was.1)
+after_appended (Piece i) chain rs r first d s was is = (inl is.0, current_twice chain first d s was.1 is.1)
+after_appended SyncRecord chain rs r first d s was is = (inl is.0, current_twice chain first d s was.1 is.1)
+after_appended OpenGate chain rs r first d s was is = (is.0, current_twice chain first d s was.1 is.1)
+after_appended SyncGate chain rs r first d s was is = (is.0, current_twice chain first d s was.1 is.1)
+after_appended Done chain rs r first d s was is = (inl is.0, current_twice chain first d s was.1 is.1)
 
 pub rest_lists : (chain : Current) (v : View) (rs : List Image) (behind : List ℕ) → IsAtRest chain v rs behind → (c : Store) → v.may_leave c → Lists chain rs c
 rest_lists chain v rs behind rest c left = lists_of chain rs rest.gate behind c (holds_of chain rs rest.keeps) rest.alone.image_file rest.closed (rest.left c left) (rest.alone.aside c left)
@@ -57,7 +58,7 @@ rest_due chain v rs image behind rest = record {
 pub begun : (chain : Current) (v : View) (rs : List Image) (r : Image) (image behind : List ℕ) → IsTrue v.tells → IsDisk v → IsAtRest chain v rs behind → SoFar chain chain r image (Piece 0) v v rs
 begun chain v rs r image behind tells disk rest = record {
   due = rest_due chain v rs image behind rest;
-  moments = still v (Among v.may_leave (IsAppended chain rs r)) (λ _. disk) (λ _. tells) (λ _ c left. (c, left, (inl (rest_lists chain v rs behind rest c left), refl)));
+  moments = still v (Among v.may_leave (IsAppended chain rs r)) (λ _. disk) (λ _. tells) (λ _ c left. (c, left, (inl (rest_lists chain v rs behind rest c left), record { output = refl; aside = refl })));
   output = same_output v;
 }
 
@@ -146,3 +147,35 @@ took_next Done n start chain after image inside was took last = absurd inside
 
 pub not_last : Piece 0 ≡ Done → ⊥
 not_last e = cc
+
+-- ---- what reads give and a crash leaves while a step is due
+
+lists_before : (chain : Current) (v : View) (rs : List Image) (c : Store) → Keeps chain rs → Alone chain v rs → v.may_leave c → IsBefore (front chain rs) (file_of chain.file c) → Lists chain rs c
+lists_before chain v rs c keeps alone left b = lists_of chain rs b.gate b.behind c (holds_of chain rs keeps) alone.image_file b.closed b.bytes_are (alone.aside c left)
+
+lists_after : (chain : Current) (v : View) (rs : List Image) (r : Image) (c : Store) → Holds (header_of chain) (rs ++ r ∷ []) → Alone chain v rs → v.may_leave c → IsBefore (front chain (rs ++ r ∷ [])) (file_of chain.file c) → Lists chain (rs ++ r ∷ []) c
+lists_after chain v rs r c holds alone left b =
+    lists_of chain (rs ++ r ∷ []) b.gate b.behind c holds alone.image_file b.closed b.bytes_are
+    (aside_more (other chain.file) chain.generation (length rs) (length (rs ++ r ∷ [])) (file_of (other chain.file) c) (omega (arith, length_push rs r)) (alone.aside c left))
+
+pub due_reads : (chain : Current) (v : View) (rs : List Image) (image : List ℕ) (at : Step) → IsDisk v → (at ≡ SyncGate → ⊥) → IsDue chain v rs image at → Lists chain rs v.seen
+due_reads chain v rs image (Piece i) disk not due = reads_list chain v rs due.gate (take (4096 * i) image ++ due.behind) due.keeps due.alone disk due.closed due.reads
+due_reads chain v rs image SyncRecord disk not due = reads_list chain v rs due.gate (image ++ due.behind) due.keeps due.alone disk due.closed due.reads
+due_reads chain v rs image OpenGate disk not due = reads_list chain v rs due.gate (image ++ due.behind) due.keeps due.alone disk due.closed due.reads
+due_reads chain v rs image SyncGate disk not due = absurd (not refl)
+due_reads chain v rs image Done disk not due = absurd due.reads
+
+pub due_leaves : (chain : Current) (v : View) (rs : List Image) (image : List ℕ) (at : Step) → (at ≡ SyncGate → ⊥) → IsDue chain v rs image at → (c : Store) → v.may_leave c → Lists chain rs c
+due_leaves chain v rs image (Piece i) not due c left = lists_before chain v rs c due.keeps due.alone left (kept_gate (front chain rs) (file_of chain.file c) due.gate due.closed (due.left c left))
+due_leaves chain v rs image SyncRecord not due c left = lists_before chain v rs c due.keeps due.alone left (kept_gate (front chain rs) (file_of chain.file c) due.gate due.closed (due.left c left))
+due_leaves chain v rs image OpenGate not due c left = lists_before chain v rs c due.keeps due.alone left (record { gate = due.gate; behind = image ++ due.behind; closed = due.closed; bytes_are = due.left c left })
+due_leaves chain v rs image SyncGate not due c left = absurd (not refl)
+due_leaves chain v rs image Done not due c left = absurd due.reads
+
+pub open_reads : (chain : Current) (v : View) (rs : List Image) (r : Image) (image : List ℕ) → IsDisk v → Spells r image → Holds (header_of chain) (rs ++ r ∷ []) → IsDue chain v rs image SyncGate → Lists chain (rs ++ r ∷ []) v.seen
+open_reads chain v rs r image disk spells holds due = reads_more chain v rs r image due.behind holds due.alone disk spells due.reads
+
+pub open_leaves : (chain : Current) (v : View) (rs : List Image) (r : Image) (image : List ℕ) → Spells r image → Holds (header_of chain) (rs ++ r ∷ []) → IsDue chain v rs image SyncGate → (c : Store) → v.may_leave c → Lists chain rs c ⊎ Lists chain (rs ++ r ∷ []) c
+open_leaves chain v rs r image spells holds due c left =
+    let torn = due.left c left in
+    ⊎_elim (λ b. inl (lists_before chain v rs c due.keeps due.alone left b)) (λ b. inr (lists_after chain v rs r c holds due.alone left b)) (torn_list chain rs r image due.behind torn.0 (file_of chain.file c) spells torn.1)

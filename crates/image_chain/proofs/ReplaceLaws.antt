@@ -1,5 +1,5 @@
 -- What each call of a joining leaves.
-use Rattle.std.proofs.Common.{◌≡◌, ◌≢◌, ◌⊎◌, inl, inr, refl, sym, ◌∙◌, ap, subst, ℕ, ◌+◌, ◌-◌, ◌<◌, ◌≤◌, ◌^◌, Bool, true, false, IsTrue, List, [], ◌∷◌, ◌++◌, length, take, drop, Option, Some, None, Result, arith, append_assoc, length-append, length-take}
+use Rattle.std.proofs.Common.{◌≡◌, ◌≢◌, ◌⊎◌, inl, inr, refl, sym, ◌∙◌, ap, subst, ℕ, ◌+◌, ◌-◌, ◌<◌, ◌≤◌, ◌^◌, Bool, true, false, IsTrue, List, [], ◌∷◌, ◌++◌, length, take, drop, Option, Some, None, Result, Ok, ⊎_elim, arith, append_assoc, length-append, length-take}
 use Rattle.std.specs.Prelude.{slice_set}
 use Rattle.std.proofs.lemmas.Bool.{cases_eq}
 use Rattle.std.proofs.lemmas.List.{append-nil, drop_all, same_from_push}
@@ -9,18 +9,18 @@ use Rattle.disk_model.specs.Store.{Store, file_of, with_file}
 use Rattle.disk_model.specs.Change.{Change, Write, Sync, Start, whole, Crashed}
 use Rattle.disk_model.specs.View.{View, IsDisk, On, IsMade, Changes}
 use Rattle.disk_model.specs.Moments.{Among, LeavesOnly}
-use Rattle.disk_model.proofs.Calls.{file_of-with_file, with_file-same, still, weaken, joined, one_change, made_seen, made_leaves, other_file}
+use Rattle.disk_model.proofs.Calls.{file_of-with_file, with_file-same, changed, after_change, still, weaken, joined, one_change, made_seen, made_leaves, other_file}
 use Rattle.image_format.specs.declared.fields.Fields.{Fields}
 use Rattle.image_format.specs.declared.header.Header.{Header}
 use Rattle.image_format.specs.Image.{Image, IsImage, IsHeldHeader}
 use Rattle.image_format.specs.Spelling.{is_open, text}
 use Rattle.image_chain.specs.declared.chain.Current.{Current}
 use Rattle.image_chain.specs.declared.chain.Span.{Span}
-use Rattle.image_chain.specs.Records.{header_in}
+use Rattle.image_chain.specs.Records.{Damage, header_in}
 use Rattle.image_chain.specs.Sound.{IsNumbered, IsSound}
 use Rattle.image_chain.specs.Append.{header_of, head, chained, chained_length, Keeps, front, other, IsAside, IsAtRest, Spells}
-use Rattle.image_chain.specs.Lists.{Lists, IsKept}
-use Rattle.image_chain.specs.Replace.{next_header, ListsJoined, IsReplaced, StandsOnOther, IsBeside, IsShut, IsWritten, IsWhole, IsOpening, IsOpen}
+use Rattle.image_chain.specs.Lists.{Lists}
+use Rattle.image_chain.specs.Replace.{next_header, ListsJoined, OnlyOther, IsNotOpen, IsAsideOrShut, IsBegun, IsTurned, IsReplaced, StandsOnOther, IsBeside, IsShut, IsWritten, IsWhole, IsOpening, IsOpen}
 use Rattle.image_chain.proofs.ListLaws.{Holds, holds_of, lists_of, found_store, header_back, next_gate, shut}
 use Rattle.image_chain.proofs.StepLaws.{other_is, other_image, store_output, kept_gate, torn_behind, over, over_gate, torn_gate, front_and_gate, take_two, spells_length}
 
@@ -102,6 +102,30 @@ joined_holds chain rs r keeps held is two newest =
       number = omega (arith, number, count, two);
     }
 
+-- a file whose gate is closed is not open
+not_open : (f : DiskFile) (h : Header) (gate : ℕ) (behind file : List ℕ) → IsHeldHeader h → gate ≢ 165 → file ≡ head h ++ gate ∷ behind → IsNotOpen f file
+not_open f h gate behind file held closed is k e =
+    let back : header_in f file ≡ Ok (Some (with_gate h gate)) = ap (header_in f) is ∙ header_back f h gate behind held in
+    ap gate_in (header_is (header_in f file) e back) ∙ shut gate closed
+  where
+    header_is : (x : Result (Option Header) Damage) → x ≡ Ok (Some k) → x ≡ Ok (Some (with_gate h gate)) → Some k ≡ Some (with_gate h gate)
+    header_is x a b = cc
+
+shut_not_open : (f : DiskFile) (h : Header) (file : List ℕ) → IsHeldHeader h → IsShut h file → IsNotOpen f file
+shut_not_open f h file held is =
+    let before = kept_gate (head h) file 0 (λ e. absurd (omega arith)) is in
+    not_open f h before.gate before.behind file held before.closed before.bytes_are
+
+-- a store with other bytes in the other image file
+store_other : (chain : Current) (bytes : List ℕ) (d s : Store) → chain.file ≢ Output → s ≡ with_file (other chain.file) bytes d → OnlyOther chain d s
+store_other chain bytes d s image_file same = record {
+  output = store_output (other chain.file) bytes d s (other_image chain.file) same;
+  current = ap (file_of chain.file) same ∙ other_file (other chain.file) chain.file bytes d (back_is chain.file image_file);
+}
+
+other_bytes : (chain : Current) (bytes : List ℕ) (d s : Store) → s ≡ with_file (other chain.file) bytes d → bytes ≡ file_of (other chain.file) s
+other_bytes chain bytes d s same = sym (ap (file_of (other chain.file)) same ∙ file_of-with_file (other chain.file) bytes d)
+
 -- ---- stores of which the other file was changed
 
 old_lists : (chain : Current) (v : View) (rs : List Image) (text : List ℕ) (P : List ℕ → Type 0) → IsBeside chain v rs text P → (d s : Store) (bytes : List ℕ) → v.may_leave d → s ≡ with_file (other chain.file) bytes d → IsAside (other chain.file) chain.generation (length rs) bytes → Lists chain rs s
@@ -133,16 +157,17 @@ new_lists chain v rs r image text P beside d s was same spells holds =
     found_store f (next_header chain) (r ∷ []) 0 [] s (other_image chain.file) holds (λ e. absurd (omega arith)) theirs
     (subst (λ (g : DiskFile). IsAside g (chain.generation + 1) 1 (file_of g s)) (sym (other_twice chain.file beside.image_file)) aside)
 
--- One change of the other file that leaves the old list.
+-- One change of the other file that leaves the old list, and the other file shut.
 pub beside_moments : {T E : Type 0} (chain : Current) (change : Change) (result : Result T E) (old new : View) (rs : List Image) (text : List ℕ) (P Q : List ℕ → Type 0) → Changes (other chain.file) change result old new → IsTrue old.tells → IsDisk old → IsBeside chain old rs text P
     → ((x y : List ℕ) → P x → Crashed change text x y → Q y)
     → ((x : List ℕ) → P x → Q x)
     → ((x : List ℕ) → Q x → IsAside (other chain.file) chain.generation (length rs) x)
-    → LeavesOnly old new (Among old.may_leave (IsKept chain rs))
-beside_moments chain change result old new rs text P Q changes tells disk beside step stays aside =
-    weaken old new (Among old.may_leave (IsKept chain rs)) (Among old.may_leave (On (other chain.file) (λ _ bytes. Q bytes)))
+    → ((x : List ℕ) → Q x → IsNotOpen (other chain.file) x)
+    → LeavesOnly old new (Among old.may_leave (IsBegun chain rs))
+beside_moments chain change result old new rs text P Q changes tells disk beside step stays aside closed =
+    weaken old new (Among old.may_leave (IsBegun chain rs)) (Among old.may_leave (On (other chain.file) (λ _ bytes. Q bytes)))
     (one_change (other chain.file) change result old new P Q changes tells disk beside.left (λ x y q crash. step x y q (subst (λ (t : List ℕ). Crashed change t x y) beside.reads crash)) stays)
-    (λ s from. (from.0, from.1, (old_lists chain old rs text P beside from.0 s from.2.0 from.1 from.2.2 (aside from.2.0 from.2.1), store_output (other chain.file) from.2.0 from.0 s (other_image chain.file) from.2.2)))
+    (λ s from. (from.0, from.1, ((old_lists chain old rs text P beside from.0 s from.2.0 from.1 from.2.2 (aside from.2.0 from.2.1), inr (subst (IsNotOpen (other chain.file)) (other_bytes chain from.2.0 from.0 s from.2.2) (closed from.2.0 from.2.1))), store_other chain from.2.0 from.0 s beside.image_file from.2.2)))
 
 -- the gate before the record, as a crash may leave it
 abbrev IsTorn : Current → List ℕ → List ℕ → Type 0
@@ -152,16 +177,16 @@ IsTorn chain image file = (torn : ℕ) × (file ≡ head (next_header chain) ++ 
 replaced_moments : {T E : Type 0} (chain : Current) (change : Change) (result : Result T E) (old new : View) (rs : List Image) (r : Image) (image text : List ℕ) (P : List ℕ → Type 0) → Changes (other chain.file) change result old new → IsTrue old.tells → IsDisk old → IsBeside chain old rs text P → Spells r image → Holds (next_header chain) (r ∷ [])
     → ((x y : List ℕ) → P x → Crashed change text x y → IsTorn chain image y)
     → ((x : List ℕ) → P x → IsTorn chain image x)
-    → LeavesOnly old new (Among old.may_leave (IsReplaced chain rs r))
+    → LeavesOnly old new (Among old.may_leave (IsTurned chain rs r))
 replaced_moments chain change result old new rs r image text P changes tells disk beside spells holds step stays =
-    weaken old new (Among old.may_leave (IsReplaced chain rs r)) (Among old.may_leave (On (other chain.file) (λ _ bytes. IsTorn chain image bytes)))
+    weaken old new (Among old.may_leave (IsTurned chain rs r)) (Among old.may_leave (On (other chain.file) (λ _ bytes. IsTorn chain image bytes)))
     (one_change (other chain.file) change result old new P (IsTorn chain image) changes tells disk beside.left (λ x y q crash. step x y q (subst (λ (t : List ℕ). Crashed change t x y) beside.reads crash)) stays)
-    (λ s from. (from.0, from.1, (listed s from.0 from.1 from.2.0 from.2.2 from.2.1, store_output (other chain.file) from.2.0 from.0 s (other_image chain.file) from.2.2)))
+    (λ s from. (from.0, from.1, (listed s from.0 from.1 from.2.0 from.2.2 from.2.1, store_other chain from.2.0 from.0 s beside.image_file from.2.2)))
   where
-    listed : (s d : Store) → old.may_leave d → (bytes : List ℕ) → s ≡ with_file (other chain.file) bytes d → IsTorn chain image bytes → Lists chain rs s ⊎ ListsJoined chain r s
+    listed : (s d : Store) → old.may_leave d → (bytes : List ℕ) → s ≡ with_file (other chain.file) bytes d → IsTorn chain image bytes → (Lists chain rs s × IsNotOpen (other chain.file) (file_of (other chain.file) s)) ⊎ ListsJoined chain r s
     listed s d was bytes same torn = elim (cases_eq torn.0 165) [
       | inl open_gate ↦ inr (new_lists chain old rs r image text P beside d s was (same ∙ ap (λ (l : List ℕ). with_file (other chain.file) l d) (torn.1 ∙ ap (λ (g : ℕ). head (next_header chain) ++ g ∷ image) open_gate)) spells holds)
-      | inr closed ↦ inl (old_lists chain old rs text P beside d s bytes was same (closed_aside (other chain.file) (next_header chain) chain.generation (length rs) torn.0 image bytes beside.next closed torn.1))
+      | inr closed ↦ inl (old_lists chain old rs text P beside d s bytes was same (closed_aside (other chain.file) (next_header chain) chain.generation (length rs) torn.0 image bytes beside.next closed torn.1), subst (IsNotOpen (other chain.file)) (other_bytes chain bytes d s same) (not_open (other chain.file) (next_header chain) torn.0 image bytes beside.next closed torn.1))
     ]
 
 -- what stands beside the records after a change of the other file
@@ -196,13 +221,38 @@ rest_beside chain v rs behind rest held = record {
 }
 
 pub start_moments : {T E : Type 0} (chain : Current) (f : DiskFile) (bytes : List ℕ) (result : Result T E) (old new : View) (rs : List Image) (behind : List ℕ) → f ≡ other chain.file → Changes f (Start bytes) result old new → IsTrue old.tells → IsDisk old → chain.generation + 1 < 2 ^ 32
-    → bytes ≡ head (next_header chain) ++ 0 ∷ [] → IsAtRest chain old rs behind → LeavesOnly old new (Among old.may_leave (IsKept chain rs))
+    → bytes ≡ head (next_header chain) ++ 0 ∷ [] → IsAtRest chain old rs behind → LeavesOnly old new (Among old.may_leave (IsBegun chain rs))
 start_moments chain f bytes result old new rs behind file changes tells disk fits is rest =
-    let held = next_held chain rs rest.keeps fits in
-    let aside = IsAside (other chain.file) chain.generation (length rs) in
-    beside_moments chain (Start bytes) result old new rs (file_of (other chain.file) old.seen) aside aside (subst (λ (g : DiskFile). Changes g (Start bytes) result old new) file changes) tells disk (rest_beside chain old rs behind rest held)
-    (λ x y q same. closed_aside (other chain.file) (next_header chain) chain.generation (length rs) 0 [] y held (λ e. absurd (omega arith)) (same ∙ is))
-    (λ x q. q) (λ x q. q)
+    after_change (other chain.file) (Start bytes) result old old new P (λ _. tells) (still old P (λ _. disk) (λ _. tells) (λ _ c left. first c left)) change (λ _ c left. here c left)
+  where
+    P : Store → Type 0
+    P = Among old.may_leave (IsBegun chain rs)
+
+    held : IsHeldHeader (next_header chain)
+    held = next_held chain rs rest.keeps fits
+
+    change : Changes (other chain.file) (Start bytes) result old new
+    change = subst (λ (g : DiskFile). Changes g (Start bytes) result old new) file changes
+
+    first : (c : Store) → old.may_leave c → Among old.may_leave (IsBegun chain rs) c
+    first c left = (c, left, ((lists_of chain rs rest.gate behind c (holds_of chain rs rest.keeps) rest.alone.image_file rest.closed (rest.left c left) (rest.alone.aside c left), inl refl), record { output = refl; current = refl }))
+
+    changed_one : (c d : Store) (new_bytes : List ℕ) → old.may_leave d → new_bytes ≡ bytes → c ≡ with_file (other chain.file) new_bytes d → Among old.may_leave (IsBegun chain rs) c
+    changed_one c d b was same at = (
+      d,
+      was,
+      (
+        (
+          old_lists chain old rs (file_of (other chain.file) old.seen) (IsAside (other chain.file) chain.generation (length rs)) (rest_beside chain old rs behind rest held) d c b was at
+              (closed_aside (other chain.file) (next_header chain) chain.generation (length rs) 0 [] b held (λ e. absurd (omega arith)) (same ∙ is)),
+          inr (subst (IsNotOpen (other chain.file)) (other_bytes chain b d c at) (not_open (other chain.file) (next_header chain) 0 [] b held (λ e. absurd (omega arith)) (same ∙ is))),
+        ),
+        store_other chain b d c rest.alone.image_file at,
+      ),
+    )
+
+    here : (c : Store) → new.may_leave c → Among old.may_leave (IsBegun chain rs) c
+    here c left = ⊎_elim (first c) (λ from. changed_one c from.0 from.2.0 from.1 from.2.1 from.2.2) (changed (other chain.file) (Start bytes) result old new change tells c left)
 
 pub started : (chain : Current) (f : DiskFile) (bytes : List ℕ) (old new : View) (rs : List Image) (behind : List ℕ) → f ≡ other chain.file → IsMade f (Start bytes) old new → chain.generation + 1 < 2 ^ 32
     → bytes ≡ head (next_header chain) ++ 0 ∷ [] → IsAtRest chain old rs behind → IsWritten chain new rs []
@@ -212,20 +262,20 @@ started chain f bytes old new rs behind file made fits is rest =
     (λ x y q same. ap (λ (l : List ℕ). take (length (head (next_header chain)) + 1) l) (same ∙ is) ∙ front_and_gate (head (next_header chain)) [] 0)
 
 pub piece_moments : {T E : Type 0} (chain : Current) (f : DiskFile) (at : ℕ) (bytes so_far : List ℕ) (result : Result T E) (old new : View) (rs : List Image) → f ≡ other chain.file → Changes f (Write at bytes) result old new → IsTrue old.tells → IsDisk old
-    → 16 ≤ at → IsWritten chain old rs so_far → LeavesOnly old new (Among old.may_leave (IsKept chain rs))
+    → 16 ≤ at → IsWritten chain old rs so_far → LeavesOnly old new (Among old.may_leave (IsBegun chain rs))
 piece_moments chain f at bytes so_far result old new rs file changes tells disk le written =
     let h = next_header chain in
     beside_moments chain (Write at bytes) result old new rs (head h ++ 0 ∷ so_far) (IsShut h) (IsShut h) (subst (λ (g : DiskFile). Changes g (Write at bytes) result old new) file changes) tells disk written
     (λ x y q torn. torn_behind (head h) 0 at (length bytes) x y (omega arith) q torn)
-    (λ x q. q) (λ x q. shut_aside (other chain.file) h chain.generation (length rs) x written.next q)
+    (λ x q. q) (λ x q. shut_aside (other chain.file) h chain.generation (length rs) x written.next q) (λ x q. shut_not_open (other chain.file) h x written.next q)
 
 -- before a piece is written
-pub written_still : (chain : Current) (v : View) (rs : List Image) (so_far : List ℕ) → IsTrue v.tells → IsDisk v → IsWritten chain v rs so_far → LeavesOnly v v (Among v.may_leave (IsKept chain rs))
+pub written_still : (chain : Current) (v : View) (rs : List Image) (so_far : List ℕ) → IsTrue v.tells → IsDisk v → IsWritten chain v rs so_far → LeavesOnly v v (Among v.may_leave (IsBegun chain rs))
 written_still chain v rs so_far tells disk written =
     let h = next_header chain in
     let f = other chain.file in
-    still v (Among v.may_leave (IsKept chain rs)) (λ _. disk) (λ _. tells)
-    (λ _ c left. (c, left, (old_lists chain v rs (head h ++ 0 ∷ so_far) (IsShut h) written c c (file_of f c) left (sym (with_file-same f c)) (shut_aside f h chain.generation (length rs) (file_of f c) written.next (written.left c left)), refl)))
+    still v (Among v.may_leave (IsBegun chain rs)) (λ _. disk) (λ _. tells)
+    (λ _ c left. (c, left, ((old_lists chain v rs (head h ++ 0 ∷ so_far) (IsShut h) written c c (file_of f c) left (sym (with_file-same f c)) (shut_aside f h chain.generation (length rs) (file_of f c) written.next (written.left c left)), inl refl), record { output = refl; current = refl })))
 
 -- a piece more behind what stands there
 more_pieces : (h : Header) (image bytes : List ℕ) (from to at : ℕ) → at ≡ 16 + from → from ≤ length image → from ≤ to → bytes ≡ take (to - from) (drop from image) → whole (Write at bytes) (head h ++ 0 ∷ take from image) ≡ head h ++ 0 ∷ take to image
@@ -253,12 +303,12 @@ piece_inside chain f from image v rs file inside written =
     let all : length (file_of f v.seen) ≡ length (head h ++ 0 ∷ take from image) = ap (λ (g : DiskFile). length (file_of g v.seen)) file ∙ ap length written.reads in
     omega (arith, all, length-append (head h) (0 ∷ take from image), length-take from image)
 
-pub sync_moments : {T E : Type 0} (chain : Current) (f : DiskFile) (image : List ℕ) (result : Result T E) (old new : View) (rs : List Image) → f ≡ other chain.file → Changes f Sync result old new → IsTrue old.tells → IsDisk old → IsWritten chain old rs image → LeavesOnly old new (Among old.may_leave (IsKept chain rs))
+pub sync_moments : {T E : Type 0} (chain : Current) (f : DiskFile) (image : List ℕ) (result : Result T E) (old new : View) (rs : List Image) → f ≡ other chain.file → Changes f Sync result old new → IsTrue old.tells → IsDisk old → IsWritten chain old rs image → LeavesOnly old new (Among old.may_leave (IsBegun chain rs))
 sync_moments chain f image result old new rs file changes tells disk written =
     let h = next_header chain in
     beside_moments chain Sync result old new rs (head h ++ 0 ∷ image) (IsShut h) (IsShut h) (subst (λ (g : DiskFile). Changes g Sync result old new) file changes) tells disk written
     (λ x y q same. ap (λ (l : List ℕ). take (length (head h) + 1) l) same ∙ front_and_gate (head h) image 0)
-    (λ x q. q) (λ x q. shut_aside (other chain.file) h chain.generation (length rs) x written.next q)
+    (λ x q. q) (λ x q. shut_aside (other chain.file) h chain.generation (length rs) x written.next q) (λ x q. shut_not_open (other chain.file) h x written.next q)
 
 pub synced : (chain : Current) (f : DiskFile) (image : List ℕ) (old new : View) (rs : List Image) → f ≡ other chain.file → IsMade f Sync old new → IsWritten chain old rs image → IsWhole chain new rs image
 synced chain f image old new rs file made written =
@@ -277,7 +327,7 @@ spelled_holds : (chain : Current) (v : View) (rs : List Image) (r : Image) (text
 spelled_holds chain v rs r text image P beside spells two newest = joined_holds chain rs r beside.keeps beside.next spells.is_image two newest
 
 pub open_moments : {T E : Type 0} (chain : Current) (f : DiskFile) (image : List ℕ) (result : Result T E) (old new : View) (rs : List Image) (r : Image) → f ≡ other chain.file → Changes f (Write 15 (165 ∷ [])) result old new → IsTrue old.tells → IsDisk old → IsWhole chain old rs image
-    → Spells r image → 2 ≤ chain.count → chain.newest ≡ Some r.fields → LeavesOnly old new (Among old.may_leave (IsReplaced chain rs r))
+    → Spells r image → 2 ≤ chain.count → chain.newest ≡ Some r.fields → LeavesOnly old new (Among old.may_leave (IsTurned chain rs r))
 open_moments chain f image result old new rs r file changes tells disk stands spells two newest =
     let h = next_header chain in
     let text = head h ++ 0 ∷ image in
@@ -293,7 +343,7 @@ opened chain f image old new rs file made stands =
     (λ x y q torn. torn_gate (head h) image 0 15 x y (omega arith) q torn)
 
 pub last_moments : {T E : Type 0} (chain : Current) (f : DiskFile) (image : List ℕ) (result : Result T E) (old new : View) (rs : List Image) (r : Image) → f ≡ other chain.file → Changes f Sync result old new → IsTrue old.tells → IsDisk old → IsOpening chain old rs image
-    → Spells r image → 2 ≤ chain.count → chain.newest ≡ Some r.fields → LeavesOnly old new (Among old.may_leave (IsReplaced chain rs r))
+    → Spells r image → 2 ≤ chain.count → chain.newest ≡ Some r.fields → LeavesOnly old new (Among old.may_leave (IsTurned chain rs r))
 last_moments chain f image result old new rs r file changes tells disk stands spells two newest =
     let text = head (next_header chain) ++ 165 ∷ image in
     replaced_moments chain Sync result old new rs r image text (IsTorn chain image) (subst (λ (g : DiskFile). Changes g Sync result old new) file changes) tells disk stands spells (spelled_holds chain old rs r text image (IsTorn chain image) stands spells two newest)
@@ -307,19 +357,27 @@ lasts chain f image old new rs file made stands =
 
 -- ---- the whole
 
-pub kept_twice : (chain : Current) (rs : List Image) (a b c : View) → IsTrue a.tells → LeavesOnly a b (Among a.may_leave (IsKept chain rs)) → LeavesOnly b c (Among b.may_leave (IsKept chain rs)) → LeavesOnly a c (Among a.may_leave (IsKept chain rs))
+other_twice_on : (chain : Current) (a b c : Store) → OnlyOther chain a b → OnlyOther chain b c → OnlyOther chain a c
+other_twice_on chain a b c x y = record { output = y.output ∙ x.output; current = y.current ∙ x.current }
+
+aside_on : (chain : Current) (a b c : Store) → IsAsideOrShut chain a b → IsAsideOrShut chain b c → IsAsideOrShut chain a c
+aside_on chain a b c x (inr closed) = inr closed
+aside_on chain a b c (inl same) (inl again) = inl (again ∙ same)
+aside_on chain a b c (inr closed) (inl again) = inr (subst (IsNotOpen (other chain.file)) (sym again) closed)
+
+pub kept_twice : (chain : Current) (rs : List Image) (a b c : View) → IsTrue a.tells → LeavesOnly a b (Among a.may_leave (IsBegun chain rs)) → LeavesOnly b c (Among b.may_leave (IsBegun chain rs)) → LeavesOnly a c (Among a.may_leave (IsBegun chain rs))
 kept_twice chain rs a b c tells first second =
-    joined a b c (Among a.may_leave (IsKept chain rs)) (Among b.may_leave (IsKept chain rs)) (λ _. tells) first second
-    (λ t s from. let was = first.now t from.0 from.1 in (was.0, was.1, (from.2.0, from.2.1 ∙ was.2.1)))
+    joined a b c (Among a.may_leave (IsBegun chain rs)) (Among b.may_leave (IsBegun chain rs)) (λ _. tells) first second
+    (λ t s from. let was = first.now t from.0 from.1 in (was.0, was.1, ((from.2.0.0, aside_on chain was.0 from.0 s was.2.0.1 from.2.0.1), other_twice_on chain was.0 from.0 s was.2.1 from.2.1)))
 
-pub kept_replaced : (chain : Current) (rs : List Image) (r : Image) (a b : View) → LeavesOnly a b (Among a.may_leave (IsKept chain rs)) → LeavesOnly a b (Among a.may_leave (IsReplaced chain rs r))
+pub kept_replaced : (chain : Current) (rs : List Image) (r : Image) (a b : View) → LeavesOnly a b (Among a.may_leave (IsBegun chain rs)) → LeavesOnly a b (Among a.may_leave (IsReplaced chain rs r))
 kept_replaced chain rs r a b run =
-    weaken a b (Among a.may_leave (IsReplaced chain rs r)) (Among a.may_leave (IsKept chain rs)) run (λ s from. (from.0, from.1, (inl from.2.0, from.2.1)))
+    weaken a b (Among a.may_leave (IsReplaced chain rs r)) (Among a.may_leave (IsBegun chain rs)) run (λ s from. (from.0, from.1, (inl from.2.0, from.2.1)))
 
-pub replaced_twice : (chain : Current) (rs : List Image) (r : Image) (a b c : View) → IsTrue a.tells → LeavesOnly a b (Among a.may_leave (IsReplaced chain rs r)) → LeavesOnly b c (Among b.may_leave (IsReplaced chain rs r)) → LeavesOnly a c (Among a.may_leave (IsReplaced chain rs r))
+pub replaced_twice : (chain : Current) (rs : List Image) (r : Image) (a b c : View) → IsTrue a.tells → LeavesOnly a b (Among a.may_leave (IsReplaced chain rs r)) → LeavesOnly b c (Among b.may_leave (IsTurned chain rs r)) → LeavesOnly a c (Among a.may_leave (IsReplaced chain rs r))
 replaced_twice chain rs r a b c tells first second =
-    joined a b c (Among a.may_leave (IsReplaced chain rs r)) (Among b.may_leave (IsReplaced chain rs r)) (λ _. tells) first second
-    (λ t s from. let was = first.now t from.0 from.1 in (was.0, was.1, (from.2.0, from.2.1 ∙ was.2.1)))
+    joined a b c (Among a.may_leave (IsReplaced chain rs r)) (Among b.may_leave (IsTurned chain rs r)) (λ _. tells) first second
+    (λ t s from. let was = first.now t from.0 from.1 in (was.0, was.1, (⊎_elim (λ l. inl (l.0, inr l.1)) (λ j. inr j) from.2.0, other_twice_on chain was.0 from.0 s was.2.1 from.2.1)))
 
 abbrev span : ℕ → ℕ → Span
 span at n = record { at = at; length = n }

@@ -16,7 +16,7 @@ use Rattle.image_chain.specs.Records.{Damage, header_in, only_open, newer, in_nu
 use Rattle.image_chain.specs.Append.{header_of, head, Keeps, front, other, IsAside, Alone, IsAtRest}
 use Rattle.image_chain.specs.Lists.{IsKept, HasNone}
 use Rattle.image_chain.proofs.ListLaws.{Holds, found_store}
-use Rattle.image_chain.proofs.StepLaws.{IsBefore, kept_moments, alone_after, gate_place}
+use Rattle.image_chain.proofs.StepLaws.{IsBefore, kept_moments, alone_after, gate_place, current_twice}
 
 -- ---- a store without a chain
 
@@ -199,7 +199,7 @@ settle_moments chain old mid new rs result tells disk so_far cut changes =
     let mid_tells = subst IsTrue (sym so_far.tells) tells in
     let second = kept_moments chain Sync result mid new rs (IsBefore (front chain rs)) changes mid_tells disk cut.keeps cut.alone cut.left (λ x y q same. record { gate = cut.gate; behind = []; closed = cut.closed; bytes_are = same ∙ cut.reads }) (λ x q. q) in
     joined old mid new (Among old.may_leave (IsKept chain rs)) (Among mid.may_leave (IsKept chain rs)) (λ _. tells) so_far second
-    (λ t s from. let was = so_far.now t from.0 from.1 in (was.0, was.1, (from.2.0, from.2.1 ∙ was.2.1)))
+    (λ t s from. let was = so_far.now t from.0 from.1 in (was.0, was.1, (from.2.0, current_twice chain was.0 from.0 s was.2.1 from.2.1)))
 
 pub settled : {T E : Type 0} (chain : Current) (mid new : View) (rs : List Image) (result : Result T E) → IsTrue mid.tells → Changes chain.file Sync result mid new → IsMade chain.file Sync mid new → IsCut chain mid rs → IsAtRest chain new rs []
 settled chain mid new rs result tells changes made cut = record {

@@ -23,7 +23,7 @@ use Rattle.image_chain.specs.declared.chain.Step.TheVariants.{Piece, SyncRecord,
 use Rattle.image_chain.specs.Records.{broken_field, newest_of}
 use Rattle.image_chain.specs.Append.{header_of, head, chained, chained_length, spans_of, TakesSpan, AreInOrder, Keeps, front, other, IsAside, Alone, IsAtRest, Spells, IsDue}
 use Rattle.image_chain.specs.Sound.{IsNumbered}
-use Rattle.image_chain.specs.Lists.{Lists, IsKept, IsAppended}
+use Rattle.image_chain.specs.Lists.{Lists, OnlyCurrent, IsKept, IsAppended}
 use Rattle.image_chain.proofs.ListLaws.{Holds, holds_of, lists_of}
 
 -- ---- one record more
@@ -179,6 +179,16 @@ store_lists chain rs generation count bytes d s holds image_file is same aside =
 pub store_output : (f : DiskFile) (bytes : List ℕ) (d s : Store) → f ≢ Output → s ≡ with_file f bytes d → s.output ≡ d.output
 store_output f bytes d s image_file same = ap (λ (x : Store). x.output) same ∙ output_is f bytes d image_file
 
+-- a store with other bytes in the chain's file
+pub store_current : (chain : Current) (bytes : List ℕ) (d s : Store) → chain.file ≢ Output → s ≡ with_file chain.file bytes d → OnlyCurrent chain d s
+store_current chain bytes d s image_file same = record {
+  output = store_output chain.file bytes d s image_file same;
+  aside = ap (file_of (other chain.file)) same ∙ other_file chain.file (other chain.file) bytes d (other_is chain.file image_file);
+}
+
+pub current_twice : (chain : Current) (a b c : Store) → OnlyCurrent chain a b → OnlyCurrent chain b c → OnlyCurrent chain a c
+current_twice chain a b c x y = record { output = y.output ∙ x.output; aside = y.aside ∙ x.aside }
+
 -- a file that is aside stays so when the chain has more records
 pub aside_more : (f : DiskFile) (generation m n : ℕ) (bytes : List ℕ) → m ≤ n → IsAside f generation m bytes → IsAside f generation n bytes
 aside_more f generation m n bytes le aside = record { header = aside.header; is = aside.is; older = λ h is opened. (let two = aside.older h is opened in let some = two.0 in (omega arith, two.1)) }
@@ -201,7 +211,7 @@ pub kept_moments : {T E : Type 0} (chain : Current) (change : Change) (result : 
 kept_moments chain change result old new rs Q changes tells disk keeps alone left step stays =
     weaken old new (Among old.may_leave (IsKept chain rs)) (Among old.may_leave (On chain.file (λ _ bytes. IsBefore (front chain rs) bytes)))
     (one_change chain.file change result old new Q (IsBefore (front chain rs)) changes tells disk left step stays)
-    (λ s from. (from.0, from.1, (store_lists chain rs 0 0 from.2.0 from.0 s (holds_of chain rs keeps) alone.image_file from.2.1 from.2.2 (alone.aside from.0 from.1), store_output chain.file from.2.0 from.0 s alone.image_file from.2.2)))
+    (λ s from. (from.0, from.1, (store_lists chain rs 0 0 from.2.0 from.0 s (holds_of chain rs keeps) alone.image_file from.2.1 from.2.2 (alone.aside from.0 from.1), store_current chain from.2.0 from.0 s alone.image_file from.2.2)))
 
 -- One change that leaves the old list or the new one.
 pub appended_moments : {T E : Type 0} (chain : Current) (change : Change) (result : Result T E) (old new : View) (rs : List Image) (r : Image) (Q : List ℕ → Type 0) → Changes chain.file change result old new → IsTrue old.tells → IsDisk old → Keeps chain rs → Alone chain old rs → Holds (header_of chain) (rs ++ r ∷ [])
@@ -212,7 +222,7 @@ pub appended_moments : {T E : Type 0} (chain : Current) (change : Change) (resul
 appended_moments chain change result old new rs r Q changes tells disk keeps alone holds left step stays =
     weaken old new (Among old.may_leave (IsAppended chain rs r)) (Among old.may_leave (On chain.file (λ _ bytes. P bytes)))
     (one_change chain.file change result old new Q P changes tells disk left step stays)
-    (λ s from. (from.0, from.1, (listed s from.0 from.1 from.2.0 from.2.2 from.2.1, store_output chain.file from.2.0 from.0 s alone.image_file from.2.2)))
+    (λ s from. (from.0, from.1, (listed s from.0 from.1 from.2.0 from.2.2 from.2.1, store_current chain from.2.0 from.0 s alone.image_file from.2.2)))
   where
     P : List ℕ → Type 0
     P bytes = IsBefore (front chain rs) bytes ⊎ IsBefore (front chain (rs ++ r ∷ [])) bytes

@@ -13,7 +13,7 @@ use Rattle.image_chain.specs.declared.chain.Chain.{Chain}
 use Rattle.image_chain.specs.declared.chain.Step.{Step}
 use Rattle.image_chain.specs.declared.chain.Step.TheVariants.{Piece, SyncRecord, OpenGate, SyncGate, Done}
 use Rattle.image_chain.specs.Records.{Found, chain_in}
-use Rattle.image_chain.specs.Append.{header_of, IsAtRest, IsDue, Stands, Spells}
+use Rattle.image_chain.specs.Append.{header_of, other, IsAtRest, IsDue, Stands, Spells}
 
 -- what is found where these records stand in this file behind this header: no chain where there is none
 abbrev pub found_of : DiskFile → Header → List Image → Option Found
@@ -24,13 +24,18 @@ found_of f h (r ∷ rs) = Some (record { file = f; header = h; records = r ∷ r
 abbrev pub Lists : Current → List Image → Store → Type 0
 Lists chain rs s = chain_in s ≡ Ok (found_of chain.file (header_of chain) rs)
 
+-- the output and the other image file are as in an earlier outcome
+pub record OnlyCurrent (chain : Current) (old new : Store) : Type 0 where
+  pub output : new.output ≡ old.output
+  pub aside : file_of (other chain.file) new ≡ file_of (other chain.file) old
+
 -- an earlier outcome, but that the chain has these records
 abbrev pub IsKept : Current → List Image → Store → Store → Type 0
-IsKept chain rs old new = Lists chain rs new × (new.output ≡ old.output)
+IsKept chain rs old new = Lists chain rs new × OnlyCurrent chain old new
 
 -- an earlier outcome, but that the chain has these records, or these and the new one
 abbrev pub IsAppended : Current → List Image → Image → Store → Store → Type 0
-IsAppended chain rs r old new = (Lists chain rs new ⊎ Lists chain (rs ++ r ∷ []) new) × (new.output ≡ old.output)
+IsAppended chain rs r old new = (Lists chain rs new ⊎ Lists chain (rs ++ r ∷ []) new) × OnlyCurrent chain old new
 
 -- what a crash may leave in the call that makes this step: the old list, and once the gate is being opened the old one or the new one
 abbrev pub IsLeftIn : Step → Current → List Image → Image → Store → Store → Type 0

@@ -1,12 +1,13 @@
 -- What a joining leaves in the other image file, call by call, and of the chain.
-use Rattle.std.specs.Prelude.{◌≡◌, ◌≢◌, ◌⊎◌, ℕ, ◌+◌, List, [], ◌∷◌, ◌++◌, length, take, Ok, true}
+use Rattle.std.specs.Prelude.{◌≡◌, ◌≢◌, ◌⊎◌, ℕ, ◌+◌, List, [], ◌∷◌, ◌++◌, length, take, Some, Ok, true, false}
+use Rattle.disk_model.specs.declared.disk_file.DiskFile.{DiskFile}
 use Rattle.disk_model.specs.declared.disk_file.DiskFile.TheVariants.{Output}
 use Rattle.disk_model.specs.Store.{Store, file_of}
 use Rattle.disk_model.specs.View.{View}
 use Rattle.image_format.specs.declared.header.Header.{Header}
 use Rattle.image_format.specs.Image.{Image, IsHeldHeader}
 use Rattle.image_chain.specs.declared.chain.Current.{Current}
-use Rattle.image_chain.specs.Records.{chain_in}
+use Rattle.image_chain.specs.Records.{header_in, chain_in}
 use Rattle.image_chain.specs.Append.{header_of, head, front, other, Keeps}
 use Rattle.image_chain.specs.Lists.{found_of, Lists}
 
@@ -18,9 +19,30 @@ next_header chain = record { generation = chain.generation + 1; every = chain.ev
 abbrev pub ListsJoined : Current → Image → Store → Type 0
 ListsJoined chain r s = chain_in s ≡ Ok (found_of (other chain.file) (next_header chain) (r ∷ []))
 
+-- the output and the file of the records are as in an earlier outcome
+pub record OnlyOther (chain : Current) (old new : Store) : Type 0 where
+  pub output : new.output ≡ old.output
+  pub current : file_of chain.file new ≡ file_of chain.file old
+
+-- an image file has no open gate
+abbrev pub IsNotOpen : DiskFile → List ℕ → Type 0
+IsNotOpen f bytes = (h : Header) → header_in f bytes ≡ Ok (Some h) → h.gate_open ≡ false
+
+-- the other image file is as in an earlier outcome, or it is not open
+abbrev pub IsAsideOrShut : Current → Store → Store → Type 0
+IsAsideOrShut chain old new = (file_of (other chain.file) new ≡ file_of (other chain.file) old) ⊎ IsNotOpen (other chain.file) (file_of (other chain.file) new)
+
+-- an earlier outcome, but that the other image file was begun: the chain has these records
+abbrev pub IsBegun : Current → List Image → Store → Store → Type 0
+IsBegun chain rs old new = (Lists chain rs new × IsAsideOrShut chain old new) × OnlyOther chain old new
+
+-- the same once the other image file is not open for sure
+abbrev pub IsTurned : Current → List Image → Image → Store → Store → Type 0
+IsTurned chain rs r old new = ((Lists chain rs new × IsNotOpen (other chain.file) (file_of (other chain.file) new)) ⊎ ListsJoined chain r new) × OnlyOther chain old new
+
 -- an earlier outcome, but that the chain has these records, or the one joined record
 abbrev pub IsReplaced : Current → List Image → Image → Store → Store → Type 0
-IsReplaced chain rs r old new = (Lists chain rs new ⊎ ListsJoined chain r new) × (new.output ≡ old.output)
+IsReplaced chain rs r old new = ((Lists chain rs new × IsAsideOrShut chain old new) ⊎ ListsJoined chain r new) × OnlyOther chain old new
 
 -- The chain stands on the other file, of the next generation and with one record, and its newest record says what it said.
 pub record StandsOnOther (old new : Current) : Type 0 where

@@ -1,10 +1,10 @@
 //! What a chain tells, and its records.
-ghost use Rattle.std.specs.Prelude.{◌≡◌, ◌<◌, ◌≤◌, ◌+◌, List, ◌∷◌, [], ◌++◌, length, take, IsTrue, IfOk, IfErr, IsSome, Option, None, Ok, OnOk};
+ghost use Rattle.std.specs.Prelude.{◌≡◌, ◌⊎◌, ◌<◌, ◌≤◌, ◌+◌, List, ◌∷◌, [], ◌++◌, length, take, IsTrue, IfOk, IfErr, IsSome, Option, None, Ok, OnOk};
 ghost use Rattle.disk_model.specs.Store.{Store, file_of};
 ghost use Rattle.image_format.specs.Image.{Image};
-ghost use Rattle.image_chain.specs.Records.{newest_of};
+ghost use Rattle.image_chain.specs.Records.{newest_of, broken_field};
 ghost use Rattle.image_chain.specs.Sound.{HasNewest};
-ghost use Rattle.image_chain.specs.Append.{chained_length};
+ghost use Rattle.image_chain.specs.Append.{chained_length, IsDue, Spells};
 ghost use Rattle.image_chain.specs.Lists.{Lists, Rests};
 ghost use Rattle.image_chain.specs.Looking.{OnlyLooked, RoseIfFailed};
 ghost use Rattle.image_chain.specs.Shown.{IsRecordOf, IsNoRecord, IsShown, StandsAt, ShowsRecord, place_in, span_at};
@@ -111,6 +111,17 @@ impl Chain {
         ensures newest_place { IsTrue (D.view disk.now).tells → (rs : List Image) → Rests self.now (D.view disk.now) rs → (before : List Image) (r : Image) → rs ≡ before ++ r ∷ [] → self.now.current.newest_at ≡ 16 + chained_length before }
         ensures reads { IsTrue (D.view disk.now).tells → (rs : List Image) → Rests self.now (D.view disk.now) rs → Lists self.now.current rs (D.view disk.now).seen }
         ensures lasting { IsTrue (D.view disk.now).tells → (rs : List Image) → Rests self.now (D.view disk.now) rs → (c : Store) → (D.view disk.now).may_leave c → Lists self.now.current rs c }
+    {}
+
+    /// What reads and crashes give of the records while a step of an append of this record is due.
+    pub fn tells_due<D: Disk>(&self, disk: &D, image: &[u8])
+        requires room { self.now.current.count < self.now.current.max }
+        requires follows { (r : Image) → Spells r image.now → broken_field self.now.current.newest r.fields ≡ None }
+        ensures reads { IsTrue (D.view disk.now).tells → (rs : List Image) (at : Step) → (at ≡ Step.SyncGate → ⊥) → IsDue self.now.current (D.view disk.now) rs image.now at → Lists self.now.current rs (D.view disk.now).seen }
+        ensures lasting { IsTrue (D.view disk.now).tells → (rs : List Image) (at : Step) → (at ≡ Step.SyncGate → ⊥) → IsDue self.now.current (D.view disk.now) rs image.now at → (c : Store) → (D.view disk.now).may_leave c → Lists self.now.current rs c }
+        ensures opened { IsTrue (D.view disk.now).tells → (rs : List Image) (r : Image) → Spells r image.now → IsDue self.now.current (D.view disk.now) rs image.now Step.SyncGate → Lists self.now.current (rs ++ r ∷ []) (D.view disk.now).seen }
+        ensures either { IsTrue (D.view disk.now).tells → (rs : List Image) (r : Image) → Spells r image.now → IsDue self.now.current (D.view disk.now) rs image.now Step.SyncGate
+            → (c : Store) → (D.view disk.now).may_leave c → Lists self.now.current rs c ⊎ Lists self.now.current (rs ++ r ∷ []) c }
     {}
 }
 

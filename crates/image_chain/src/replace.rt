@@ -5,8 +5,8 @@ ghost use Rattle.disk_model.specs.View.{SameFile, Steady};
 ghost use Rattle.disk_model.specs.Moments.{Among, LeavesOnly};
 ghost use Rattle.image_format.specs.Image.{Image};
 ghost use Rattle.image_chain.specs.Append.{IsAtRest, IsSoundFile, Spells, header_of, other};
-ghost use Rattle.image_chain.specs.Lists.{IsKept, Rests};
-ghost use Rattle.image_chain.specs.Replace.{IsReplaced, StandsOnOther, IsWritten, IsWhole, IsOpening, IsOpen, next_header};
+ghost use Rattle.image_chain.specs.Lists.{Rests};
+ghost use Rattle.image_chain.specs.Replace.{IsReplaced, StandsOnOther, IsWritten, IsWhole, IsOpening, IsOpen, next_header, IsBegun, IsTurned};
 
 use crate::append::{OPEN_GATE, PIECE_BYTES};
 use crate::chain::{Chain, Current, Span, Step};
@@ -64,7 +64,7 @@ fn write_other<D: Disk>(chain: &Current, disk: &mut D, image: &[u8]) -> Result<(
     requires rests { IsTrue (D.view disk.old).tells → (rs : List Image) × ((behind : List ℕ) × IsAtRest chain.now (D.view disk.old) rs behind) }
     ensures answer { OnOk result (IsTrue (D.view disk.old).tells → (rs : List Image) (behind : List ℕ) → IsAtRest chain.now (D.view disk.old) rs behind → IsWhole chain.now (D.view disk.new) rs image.now) }
     ensures any_moment { IsTrue (D.view disk.old).tells → (rs : List Image) (behind : List ℕ) → IsAtRest chain.now (D.view disk.old) rs behind
-        → LeavesOnly (D.view disk.old) (D.view disk.new) (Among (D.view disk.old).may_leave (IsKept chain.now rs)) }
+        → LeavesOnly (D.view disk.old) (D.view disk.new) (Among (D.view disk.old).may_leave (IsBegun chain.now rs)) }
     ensures output { IsTrue (D.view disk.old).tells → SameFile DiskFile.Output (D.view disk.old) (D.view disk.new) }
     ensures failed { OnErr result (Rose (D.view disk.old).faults (D.view disk.new).faults) }
     ensures counts { OnOk result ((D.view disk.new).faults ≡ (D.view disk.old).faults) }
@@ -82,7 +82,7 @@ fn start_other<D: Disk>(chain: &Current, disk: &mut D) -> Result<(), Failed>
     requires records { 2 ≤ chain.now.count }
     ensures answer { OnOk result (IsTrue (D.view disk.old).tells → (rs : List Image) (behind : List ℕ) → IsAtRest chain.now (D.view disk.old) rs behind → IsWritten chain.now (D.view disk.new) rs []) }
     ensures any_moment { IsTrue (D.view disk.old).tells → (rs : List Image) (behind : List ℕ) → IsAtRest chain.now (D.view disk.old) rs behind
-        → LeavesOnly (D.view disk.old) (D.view disk.new) (Among (D.view disk.old).may_leave (IsKept chain.now rs)) }
+        → LeavesOnly (D.view disk.old) (D.view disk.new) (Among (D.view disk.old).may_leave (IsBegun chain.now rs)) }
     ensures output { IsTrue (D.view disk.old).tells → SameFile DiskFile.Output (D.view disk.old) (D.view disk.new) }
     ensures failed { OnErr result (Rose (D.view disk.old).faults (D.view disk.new).faults) }
     ensures counts { OnOk result ((D.view disk.new).faults ≡ (D.view disk.old).faults) }
@@ -103,7 +103,7 @@ fn write_pieces<D: Disk>(chain: &Current, disk: &mut D, image: &[u8]) -> Result<
     requires stands { IsTrue (D.view disk.old).tells → (rs : List Image) × IsWritten chain.now (D.view disk.old) rs [] }
     ensures answer { OnOk result (IsTrue (D.view disk.old).tells → (rs : List Image) → IsWritten chain.now (D.view disk.old) rs [] → IsWritten chain.now (D.view disk.new) rs image.now) }
     ensures any_moment { IsTrue (D.view disk.old).tells → (rs : List Image) → IsWritten chain.now (D.view disk.old) rs []
-        → LeavesOnly (D.view disk.old) (D.view disk.new) (Among (D.view disk.old).may_leave (IsKept chain.now rs)) }
+        → LeavesOnly (D.view disk.old) (D.view disk.new) (Among (D.view disk.old).may_leave (IsBegun chain.now rs)) }
     ensures output { IsTrue (D.view disk.old).tells → SameFile DiskFile.Output (D.view disk.old) (D.view disk.new) }
     ensures failed { OnErr result (Rose (D.view disk.old).faults (D.view disk.new).faults) }
     ensures counts { OnOk result ((D.view disk.new).faults ≡ (D.view disk.old).faults) }
@@ -128,7 +128,7 @@ fn write_piece<D: Disk>(
     ensures order { IfOk result (λ to. to ≡ min (from + 4096) (length image.now)) }
     ensures answer { IfOk result (λ to. IsTrue (D.view disk.old).tells → (rs : List Image) → IsWritten chain.now (D.view disk.old) rs (take from image.now) → IsWritten chain.now (D.view disk.new) rs (take to image.now)) }
     ensures any_moment { IsTrue (D.view disk.old).tells → (rs : List Image) → IsWritten chain.now (D.view disk.old) rs (take from image.now)
-        → LeavesOnly (D.view disk.old) (D.view disk.new) (Among (D.view disk.old).may_leave (IsKept chain.now rs)) }
+        → LeavesOnly (D.view disk.old) (D.view disk.new) (Among (D.view disk.old).may_leave (IsBegun chain.now rs)) }
     ensures output { IsTrue (D.view disk.old).tells → SameFile DiskFile.Output (D.view disk.old) (D.view disk.new) }
     ensures failed { OnErr result (Rose (D.view disk.old).faults (D.view disk.new).faults) }
     ensures counts { OnOk result ((D.view disk.new).faults ≡ (D.view disk.old).faults) }
@@ -147,7 +147,7 @@ fn write_piece<D: Disk>(
 fn sync_record<D: Disk>(chain: &Current, disk: &mut D, image: &[u8]) -> Result<(), Failed>
     ensures answer { OnOk result (IsTrue (D.view disk.old).tells → (rs : List Image) → IsWritten chain.now (D.view disk.old) rs image.now → IsWhole chain.now (D.view disk.new) rs image.now) }
     ensures any_moment { IsTrue (D.view disk.old).tells → (rs : List Image) → IsWritten chain.now (D.view disk.old) rs image.now
-        → LeavesOnly (D.view disk.old) (D.view disk.new) (Among (D.view disk.old).may_leave (IsKept chain.now rs)) }
+        → LeavesOnly (D.view disk.old) (D.view disk.new) (Among (D.view disk.old).may_leave (IsBegun chain.now rs)) }
     ensures output { IsTrue (D.view disk.old).tells → SameFile DiskFile.Output (D.view disk.old) (D.view disk.new) }
     ensures failed { OnErr result (Rose (D.view disk.old).faults (D.view disk.new).faults) }
     ensures counts { OnOk result ((D.view disk.new).faults ≡ (D.view disk.old).faults) }
@@ -164,7 +164,7 @@ fn open_other<D: Disk>(chain: &Current, disk: &mut D, image: &[u8]) -> Result<()
     requires stands { IsTrue (D.view disk.old).tells → (rs : List Image) × IsWhole chain.now (D.view disk.old) rs image.now }
     ensures answer { OnOk result (IsTrue (D.view disk.old).tells → (rs : List Image) → IsWhole chain.now (D.view disk.old) rs image.now → IsOpening chain.now (D.view disk.new) rs image.now) }
     ensures any_moment { IsTrue (D.view disk.old).tells → (rs : List Image) (r : Image) → Spells r image.now → IsWhole chain.now (D.view disk.old) rs image.now
-        → LeavesOnly (D.view disk.old) (D.view disk.new) (Among (D.view disk.old).may_leave (IsReplaced chain.now rs r)) }
+        → LeavesOnly (D.view disk.old) (D.view disk.new) (Among (D.view disk.old).may_leave (IsTurned chain.now rs r)) }
     ensures output { IsTrue (D.view disk.old).tells → SameFile DiskFile.Output (D.view disk.old) (D.view disk.new) }
     ensures failed { OnErr result (Rose (D.view disk.old).faults (D.view disk.new).faults) }
     ensures counts { OnOk result ((D.view disk.new).faults ≡ (D.view disk.old).faults) }
@@ -180,7 +180,7 @@ fn sync_other<D: Disk>(chain: &Current, disk: &mut D, image: &[u8]) -> Result<()
     requires newest { (r : Image) → Spells r image.now → chain.now.newest ≡ Some r.fields }
     ensures answer { OnOk result (IsTrue (D.view disk.old).tells → (rs : List Image) → IsOpening chain.now (D.view disk.old) rs image.now → IsOpen chain.now (D.view disk.new) rs image.now) }
     ensures any_moment { IsTrue (D.view disk.old).tells → (rs : List Image) (r : Image) → Spells r image.now → IsOpening chain.now (D.view disk.old) rs image.now
-        → LeavesOnly (D.view disk.old) (D.view disk.new) (Among (D.view disk.old).may_leave (IsReplaced chain.now rs r)) }
+        → LeavesOnly (D.view disk.old) (D.view disk.new) (Among (D.view disk.old).may_leave (IsTurned chain.now rs r)) }
     ensures output { IsTrue (D.view disk.old).tells → SameFile DiskFile.Output (D.view disk.old) (D.view disk.new) }
     ensures failed { OnErr result (Rose (D.view disk.old).faults (D.view disk.new).faults) }
     ensures counts { OnOk result ((D.view disk.new).faults ≡ (D.view disk.old).faults) }

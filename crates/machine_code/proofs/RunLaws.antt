@@ -167,21 +167,21 @@ row_goes c s m (Ckpt n) = told_goes s m 0 _ _ (λ x h. cc, λ t h. cc, λ h. cc)
 row_goes c s m (Excl k) = told_goes s m 0 _ _ (λ x h. cc, λ t h. cc, λ h. cc)
 row_goes c s m i = ran_goes s m m _ refl
 
-next_goes : (c : CodeView) (s : State) (m : List ℕ) (o : Option Instr) → Goes s m (row_at c unprotected s m o)
+pub next_goes : (c : CodeView) (s : State) (m : List ℕ) (o : Option Instr) → Goes s m (row_at c unprotected s m o)
 next_goes c s m None = ran_goes s m m s refl
 next_goes c s m (Some i) = row_goes c s m i
 
 -- the world after one instruction is that of its row, unless the row asked for input
-after_by : (c : CodeView) (w : World) (o : Option Instr) → (after_instr c w o ≡ after_row w (row_at c unprotected w.state w.memory o)) ⊎ (o ≡ Some In)
+pub after_by : (c : CodeView) (w : World) (o : Option Instr) → (after_instr c w o ≡ after_row w (row_at c unprotected w.state w.memory o)) ⊎ (o ≡ Some In)
 after_by c w None = inl refl
 after_by c w (Some In) = inr refl
 after_by c w (Some i) = inl refl
 
-fed_ticks : (w : World) (bs : List ℕ) → (fed w bs).state.ticks ≡ w.state.ticks
+pub fed_ticks : (w : World) (bs : List ℕ) → (fed w bs).state.ticks ≡ w.state.ticks
 fed_ticks w [] = refl
 fed_ticks w (b ∷ bs) = refl
 
-ticks_rise : (c : CodeView) (w : World) → w.state.ticks ≤ (after_one c w).state.ticks
+pub ticks_rise : (c : CodeView) (w : World) → w.state.ticks ≤ (after_one c w).state.ticks
 ticks_rise c w =
     let o = slice_get c.instrs w.state.place in
     ⊎_elim
@@ -194,7 +194,7 @@ ticks_later c zero w = omega arith
 ticks_later c (suc k) w = let h = ticks_rise c w in let r = ticks_later c k (after_one c w) in omega arith
 
 -- a world whose next row leaves everything stays
-stays_there : (c : CodeView) (v : World) → IsStill (next_row c unprotected v.state v.memory) v.state v.memory → ((next_row c unprotected v.state v.memory).event ≡ WantsInput → ⊥) → (k : ℕ) → after c k v ≡ v
+pub stays_there : (c : CodeView) (v : World) → IsStill (next_row c unprotected v.state v.memory) v.state v.memory → ((next_row c unprotected v.state v.memory).event ≡ WantsInput → ⊥) → (k : ℕ) → after c k v ≡ v
 stays_there c v still not zero = refl
 stays_there c v still not (suc k) =
     let o = slice_get c.instrs v.state.place in
@@ -213,7 +213,7 @@ same_stop c v bound q k e is not still later =
     subst (λ d. StopsBy d v bound q) is (subst (λ w. Stops c w bound q) (stays_there c v still (λ h. not (sym is ∙ h)) k) later)
 
 -- a tick that is taken is one more
-tick_more : (c : CodeView) (v : World) → (next_row c unprotected v.state v.memory).event ≡ Ticked → (after_one c v).state.ticks ≡ v.state.ticks + 1
+pub tick_more : (c : CodeView) (v : World) → (next_row c unprotected v.state v.memory).event ≡ Ticked → (after_one c v).state.ticks ≡ v.state.ticks + 1
 tick_more c v is =
     let o = slice_get c.instrs v.state.place in
     ⊎_elim

@@ -18,3 +18,5 @@ pub mod Still
 pub mod Listing
 -- the depths that earlier instructions force
 pub mod Forced
+-- what a run has shown
+pub mod Shown

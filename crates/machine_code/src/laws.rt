@@ -1,12 +1,14 @@
 // Laws of the definitions: functions that do nothing, whose contracts are theorems.
 
-ghost use Rattle.std.specs.Prelude.{ℕ, List, Bool, Some, slice_get, ◌≡◌};
+ghost use Rattle.std.specs.Prelude.{ℕ, List, Bool, Some, slice_get, ◌≡◌, ◌+◌, ◌-◌, ◌≤◌, length};
+ghost use Rattle.machine_code.specs.Memory.{FitsMemory};
+ghost use Rattle.machine_code.specs.Shown.{Shows, longer};
 ghost use Rattle.ckpt_base.specs.Run.{Run};
 ghost use Rattle.machine_code.specs.declared.instr.Instr.{Instr};
 ghost use Rattle.machine_code.specs.CodeView.{CodeView};
 ghost use Rattle.machine_code.specs.State.{State};
 ghost use Rattle.machine_code.specs.Row.{row};
-ghost use Rattle.machine_code.specs.Run.{World, Reaches, CodeRun, after_row, fed};
+ghost use Rattle.machine_code.specs.Run.{World, Reaches, CodeRun, after, after_row, fed};
 ghost use Rattle.machine_code.specs.Still.{IsPlainOrStill};
 
 /// Whatever pages are protected, an instruction does what it does with none, or leaves everything.
@@ -24,4 +26,19 @@ pub fn runs_go_on()
 /// A run of a code gives one answer.
 pub fn runs_give_one_answer()
     ensures law { (c : CodeView) (w : World) (n : ℕ) (r q : Run) → CodeRun c w n r → CodeRun c w n q → r ≡ q }
+{}
+
+/// A run shows each store and each input byte that it takes: all else of its world is as it was.
+pub fn runs_show_what_they_do()
+    ensures law { (c : CodeView) (w v : World) → Reaches c w v → Shows w v }
+{}
+
+/// A run to a bound passes each world that it reaches within the bound: from there it gives the same answer.
+pub fn runs_pass_what_they_reach()
+    ensures law { (c : CodeView) (w v : World) (n : ℕ) (r : Run) → CodeRun c w n r → Reaches c w v → v.state.ticks ≤ w.state.ticks + n → CodeRun c v ((w.state.ticks + n) - v.state.ticks) r }
+{}
+
+/// Cells behind those that a code names change nothing, and stay.
+pub fn runs_leave_other_cells()
+    ensures law { (c : CodeView) (w : World) (more : List ℕ) (k : ℕ) → FitsMemory c (length w.memory) → after c k (longer more w) ≡ longer more (after c k w) }
 {}

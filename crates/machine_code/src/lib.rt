@@ -20,5 +20,8 @@ mod valid;
 pub use code::Code;
 pub use event::{Caller, Event};
 pub use instr::Instr;
-pub use laws::{rows_are_plain, runs_give_one_answer, runs_go_on};
+pub use laws::{
+    rows_are_plain, runs_give_one_answer, runs_go_on, runs_leave_other_cells,
+    runs_pass_what_they_reach, runs_show_what_they_do,
+};
 pub use lines::listing;
