@@ -46,6 +46,8 @@ pub mod ValidTables
 pub mod ValidProgram
 -- the machine can run the code of a program
 pub mod ValidLaws
+-- the checkpoints of a code
+pub mod CheckpointLaws
 -- how many instructions nodes have
 pub mod SizeNodes
 -- how many instructions programs have
