@@ -16,7 +16,7 @@ pub mod Ties
 pub mod Nodes
 -- the graphs of a checked program are placed in its code
 pub mod Placed
--- the code of a checked program means what its graphs mean
+-- the runs of the code are those of the graphs
 pub mod Means
 -- how long codes are
 pub mod Lengths
@@ -52,9 +52,11 @@ pub mod CheckpointLaws
 pub mod SizeNodes
 -- how many instructions programs have
 pub mod SizePrograms
--- the events of one node
+-- what one node leaves
 pub mod ResumedSteps
 -- where a run stands behind a checkpoint
 pub mod ResumedRuns
+-- the code of a checked program means what its graphs mean
+pub mod Meaning
 -- runs from behind a checkpoint
 pub mod ResumedLaws

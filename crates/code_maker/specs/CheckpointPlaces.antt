@@ -11,6 +11,11 @@ use Rattle.machine_code.specs.Valid.{has_checkpoint}
 abbrev pub IsCheckpoint : Resolved → ℕ → Type 0
 IsCheckpoint p m = slice_get (graphs_of p).main.works m ≡ Some work.Checkpoint
 
+-- .. and goes on to this node
+pub record IsCheckpointTo (p : Resolved) (m next : ℕ) : Type 0 where
+  pub does : IsCheckpoint p m
+  pub edge : slice_get (graphs_of p).main.edges m ≡ Some (Some next, None)
+
 -- Each checkpoint among the instructions, and each in the table, is a node that is CHECKPOINT_HERE, below 2,048; and each such node has one place after it.
 pub record CheckpointsAreThere (p : Resolved) (c : CodeView) : Type 0 where
   pub nodes : (q m : ℕ) → slice_get c.instrs q ≡ Some (Ckpt m) → IsCheckpoint p m

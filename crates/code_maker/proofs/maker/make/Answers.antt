@@ -12,7 +12,7 @@ use Rattle.code_maker.specs.CodeMeaning.{MeansGraphs}
 use Rattle.code_maker.specs.Parts.{instr_limit}
 use Rattle.code_maker.specs.ProgramCode.{graph_for}
 use Rattle.code_maker.proofs.Making.{have_both, starts_length}
-use Rattle.code_maker.proofs.Means.{code_means}
+use Rattle.code_maker.proofs.Meaning.{code_means}
 use Rattle.code_maker.proofs.CheckpointLaws.{checkpoints_there}
 use Rattle.code_maker.proofs.ValidLaws.{code_is_valid, code_fits, directive_there}
 use Rattle.code_maker.proofs.SizePrograms.{code_small}
