@@ -16,7 +16,7 @@ pub mod Ties
 pub mod Nodes
 -- the graphs of a checked program are placed in its code
 pub mod Placed
--- the code of a checked program means what its graphs mean
+-- the runs of the code are those of the graphs
 pub mod Means
 -- how long codes are
 pub mod Lengths
@@ -46,13 +46,17 @@ pub mod ValidTables
 pub mod ValidProgram
 -- the machine can run the code of a program
 pub mod ValidLaws
+-- the checkpoints of a code
+pub mod CheckpointLaws
 -- how many instructions nodes have
 pub mod SizeNodes
 -- how many instructions programs have
 pub mod SizePrograms
--- the events of one node
+-- what one node leaves
 pub mod ResumedSteps
 -- where a run stands behind a checkpoint
 pub mod ResumedRuns
+-- the code of a checked program means what its graphs mean
+pub mod Meaning
 -- runs from behind a checkpoint
 pub mod ResumedLaws

@@ -320,7 +320,7 @@ module _ (c : CodeView) (gs : Graphs) (signatures : ℕ → Option Signature) (c
 -- ---- steps and runs
 
 module _ (c : CodeView) (gs : Graphs) (signatures : ℕ → Option Signature) (callable : (h : ℕ) (s : Signature) → signatures h ≡ Some s → IsCallable c gs signatures h s) where
-  step_does : (x : Spot) (s : State) (ks : List Caller) (tie : IsTied c gs signatures x s ks) (n : ℕ) → Does c gs signatures (tied c gs signatures x s ks tie) (s.ticks + n) (step gs x s n)
+  pub step_does : (x : Spot) (s : State) (ks : List Caller) (tie : IsTied c gs signatures x s ks) (n : ℕ) → Does c gs signatures (tied c gs signatures x s ks tie) (s.ticks + n) (step gs x s n)
   step_does x s ks tie n =
       let there = tie.there in
       let w = tied c gs signatures x s ks tie in

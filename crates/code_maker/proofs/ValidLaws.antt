@@ -70,7 +70,7 @@ module _ (p : Resolved) (checked : IsChecked p) where
       let l = ap length numbers in
       (r.0, omega (arith, r.1))
 
-  node_listed : (n : ℕ) → slice_get main_works n ≡ Some work.Checkpoint → IsTrue (has_checkpoint c n (main_start n + 1 + 1))
+  pub node_listed : (n : ℕ) → slice_get main_works n ≡ Some work.Checkpoint → IsTrue (has_checkpoint c n (main_start n + 1 + 1))
   node_listed n e =
       let g = (graphs_of p).main in
       let joined = graph_is_joined 0 p.main.body in

@@ -6,6 +6,8 @@ pub mod NodeCode
 pub mod Depths
 -- the code of a program
 pub mod ProgramCode
+-- the checkpoints of a code
+pub mod CheckpointPlaces
 -- what a code means
 pub mod CodeMeaning
 -- how many instructions a code may have

@@ -17,6 +17,8 @@ mod valid_laws;
 
 pub use laws::{codes_mean_their_graphs, codes_mean_their_programs};
 pub use maker::make;
-pub use resumed_laws::{codes_keep_pointers, codes_run_alike};
+pub use resumed_laws::{
+    checkpoints_end_ticks, codes_keep_pointers, codes_run_alike, codes_stand_behind,
+};
 pub use size_laws::codes_are_small;
-pub use valid_laws::{codes_are_valid, codes_fit, directives_are_there};
+pub use valid_laws::{checkpoints_are_there, codes_are_valid, codes_fit, directives_are_there};

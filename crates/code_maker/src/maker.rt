@@ -11,6 +11,7 @@ ghost use Rattle.machine_code.specs.Memory.{FitsMemory};
 ghost use Rattle.code_maker.specs.Depths.{works_depth, deepest};
 ghost use Rattle.code_maker.specs.NodeCode as spec;
 ghost use Rattle.code_maker.specs.ProgramCode.{graph_for, IsThere, HaveBoth, graph_with, graphs_block, functions_from, checkpoint_at, checkpoints_from, code_of};
+ghost use Rattle.code_maker.specs.CheckpointPlaces.{CheckpointsAreThere};
 ghost use Rattle.code_maker.specs.CodeMeaning.{MeansGraphs};
 ghost use Rattle.code_maker.specs.Parts.{instr_limit};
 
@@ -271,6 +272,7 @@ pub fn make(alloc: Global, graphs: &Graphs, program: &Checked) -> Result<Code, N
     ensures valid { IfOk result (λ c. IsValid c) }
     ensures fits { IfOk result (λ c. FitsMemory c (cell_count program.now)) }
     ensures directives { IfOk result (λ c. (q k : ℕ) → slice_get c.instrs q ≡ Some (Instr.Excl k) → (1 ≤ k) × (k ≤ length (excludes program.now.main.body))) }
+    ensures checkpoints { IfOk result (λ c. CheckpointsAreThere program.now c) }
     ensures means { IfOk result (λ c. MeansGraphs program.now c) }
     ensures size { IfOk result (λ c. length c.instrs ≤ instr_limit program.now) }
 {

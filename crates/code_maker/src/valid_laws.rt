@@ -9,6 +9,7 @@ ghost use Rattle.machine_code.specs.declared.instr.Instr.TheVariants.{Excl};
 ghost use Rattle.machine_code.specs.Valid.{IsValid};
 ghost use Rattle.machine_code.specs.Memory.{FitsMemory};
 ghost use Rattle.code_maker.specs.ProgramCode.{code_of};
+ghost use Rattle.code_maker.specs.CheckpointPlaces.{CheckpointsAreThere};
 
 /// The code of a checked program is one that the machine can run: no instruction misses an operand, a local or a place to go on at.
 pub fn codes_are_valid()
@@ -23,4 +24,9 @@ pub fn codes_fit()
 /// Each directive in the code of a checked program has the number of one of its EXCLUDE_HERE.
 pub fn directives_are_there()
     ensures law { (p : Resolved) (q k : ℕ) → IsChecked p → slice_get (code_of p).instrs q ≡ Some (Excl k) → (1 ≤ k) × (k ≤ length (excludes p.main.body)) }
+{}
+
+/// The checkpoints in the code of a checked program are its nodes that are CHECKPOINT_HERE, below 2,048, each with one place after it.
+pub fn checkpoints_are_there()
+    ensures law { (p : Resolved) → IsChecked p → CheckpointsAreThere p (code_of p) }
 {}

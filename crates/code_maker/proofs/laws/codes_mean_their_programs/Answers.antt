@@ -1,4 +1,4 @@
-use Rattle.code_maker.proofs.Means.{code_means_program, code_means_no_other}
+use Rattle.code_maker.proofs.Meaning.{code_means_program, code_means_no_other}
 use Rattle.code_maker.proofs.laws.codes_mean_their_programs.Goals as goal
 
 pub returns : goal.returns

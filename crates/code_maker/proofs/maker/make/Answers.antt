@@ -7,11 +7,13 @@ use Rattle.machine_code.specs.declared.instr.Instr.TheVariants.{Excl}
 use Rattle.machine_code.specs.CodeView.{CodeView}
 use Rattle.machine_code.specs.Valid.{IsValid}
 use Rattle.machine_code.specs.Memory.{FitsMemory}
+use Rattle.code_maker.specs.CheckpointPlaces.{CheckpointsAreThere}
 use Rattle.code_maker.specs.CodeMeaning.{MeansGraphs}
 use Rattle.code_maker.specs.Parts.{instr_limit}
 use Rattle.code_maker.specs.ProgramCode.{graph_for}
 use Rattle.code_maker.proofs.Making.{have_both, starts_length}
-use Rattle.code_maker.proofs.Means.{code_means}
+use Rattle.code_maker.proofs.Meaning.{code_means}
+use Rattle.code_maker.proofs.CheckpointLaws.{checkpoints_there}
 use Rattle.code_maker.proofs.ValidLaws.{code_is_valid, code_fits, directive_there}
 use Rattle.code_maker.proofs.SizePrograms.{code_small}
 use Rattle.code_maker.proofs.maker.make.Goals as goal
@@ -45,6 +47,12 @@ pub returns-clause-directives : goal.returns-clause-directives
 returns-clause-directives c q k e =
     let checked = subst IsChecked c.tree-tree.ensures.answer c.tree-tree.ensures.checked in
     directive_there c.args.program.now checked q k (subst (λ (v : CodeView). slice_get v.instrs q ≡ Some (Excl k)) (returns-clause-code c) e)
+
+pub returns-clause-checkpoints : goal.returns-clause-checkpoints
+returns-clause-checkpoints c =
+    let p = c.args.program.now in
+    let checked = subst IsChecked c.tree-tree.ensures.answer c.tree-tree.ensures.checked in
+    subst (CheckpointsAreThere p) (sym (returns-clause-code c)) (checkpoints_there p checked)
 
 pub returns-clause-means : goal.returns-clause-means
 returns-clause-means c =
