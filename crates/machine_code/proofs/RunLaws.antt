@@ -16,21 +16,28 @@ use Rattle.machine_code.specs.CodeView.{CodeView, Function}
 use Rattle.machine_code.specs.State.{State, top, given, spent}
 use Rattle.ckpt_base.specs.Pointer.{cell_of}
 use Rattle.machine_code.specs.Row.{Done, row, stored, put, ran, trapped, answered, fetched, called, entered, returned, told}
-use Rattle.machine_code.specs.Still.{IsStill, IsPlainOrStill}
+use Rattle.machine_code.specs.Still.{IsStill, IsFault, IsPlainOrFault}
 use Rattle.machine_code.specs.Run.{World, unprotected, fed, after_row, after_instr, after_one, after, Reaches, row_at, next_row, StopsBy, Stops, CodeRun}
 
-stored_plain : (protected : ℕ → Bool) (s : State) (m : List ℕ) (k cell v : ℕ) → (stored protected s m k cell v ≡ stored unprotected s m k cell v) ⊎ IsStill (stored protected s m k cell v) s m
-stored_plain protected s m k cell v = by_test (protected (cell / 512))
-  where
-    by_test : (b : Bool) → (cond b (record { state = s; memory = m; event = WriteFault (cell / 512); shown = [] }) (record { state = spent s k; memory = slice_set m cell v; event = Ran; shown = run.Wrote cell ∷ [] }) ≡ stored unprotected s m k cell v) ⊎ IsStill (cond b (record { state = s; memory = m; event = WriteFault (cell / 512); shown = [] }) (record { state = spent s k; memory = slice_set m cell v; event = Ran; shown = run.Wrote cell ∷ [] })) s m
-    by_test true = inr (record { state = refl; memory = refl; shown = refl })
-    by_test false = inl refl
+abbrev stored_by : State → List ℕ → ℕ → ℕ → ℕ → Bool → Done
+stored_by s m k cell v b = cond b (record { state = s; memory = m; event = WriteFault (cell / 512); shown = [] }) (record { state = spent s k; memory = slice_set m cell v; event = Ran; shown = run.Wrote cell ∷ [] })
 
-put_plain : (protected : ℕ → Bool) (s : State) (m : List ℕ) (a : Result ℕ Trap) → (put protected s m a ≡ put unprotected s m a) ⊎ IsStill (put protected s m a) s m
+-- a row is the row over no protected page, or it is a fault
+abbrev PlainOrFault : (ℕ → Bool) → State → List ℕ → Done → Done → Type 0
+PlainOrFault protected s m d plain = (d ≡ plain) ⊎ IsFault protected s m d plain
+
+stored_plain : (protected : ℕ → Bool) (s : State) (m : List ℕ) (k cell v : ℕ) → PlainOrFault protected s m (stored protected s m k cell v) (stored unprotected s m k cell v)
+stored_plain protected s m k cell v = by_test (protected (cell / 512)) refl
+  where
+    by_test : (b : Bool) → protected (cell / 512) ≡ b → PlainOrFault protected s m (stored_by s m k cell v b) (stored_by s m k cell v false)
+    by_test true e = inr (record { cell = cell; closed = e; event = refl; still = record { state = refl; memory = refl; shown = refl }; shown = refl })
+    by_test false e = inl refl
+
+put_plain : (protected : ℕ → Bool) (s : State) (m : List ℕ) (a : Result ℕ Trap) → PlainOrFault protected s m (put protected s m a) (put unprotected s m a)
 put_plain protected s m (Ok cell) = stored_plain protected s m 2 cell (top s 0)
 put_plain protected s m (Err t) = inl refl
 
-pub row_plain : (c : CodeView) (protected : ℕ → Bool) (s : State) (m : List ℕ) (i : Instr) → IsPlainOrStill c protected s m i
+pub row_plain : (c : CodeView) (protected : ℕ → Bool) (s : State) (m : List ℕ) (i : Instr) → IsPlainOrFault c protected s m i
 row_plain c protected s m (StoreC cell) = stored_plain protected s m 1 cell (top s 0)
 row_plain c protected s m Put = put_plain protected s m (cell_of c.objects (top s 1))
 row_plain c protected s m i = inl refl
@@ -56,7 +63,7 @@ pub reaches_fed : (c : CodeView) (w v : World) → slice_get c.instrs v.state.pl
 reaches_fed c w v at r = subst (Reaches c w) (ap (after_instr c v) at) (reaches_one c w v r)
 
 -- a world after a row that left everything
-still_world : (v : World) (d : Done) → IsStill d v.state v.memory → after_row v d ≡ v
+pub still_world : (v : World) (d : Done) → IsStill d v.state v.memory → after_row v d ≡ v
 still_world v d h =
     let mk : State → List ℕ → List run.Event → World = λ s m es. record { state = s; memory = m; input = v.input; events = es } in
     ap (λ s. mk s d.memory (v.events ++ d.shown)) h.state
@@ -75,7 +82,7 @@ reaches_row c protected w v i at r =
     (λ e. subst (Reaches c w) (sym (ap (λ j. after_row v (row c protected v.state v.memory j)) e ∙ still_world v (row c protected v.state v.memory In) (record { state = refl; memory = refl; shown = refl }))) r)
     (λ e. subst (Reaches c w) (ap (after_instr c v) at ∙ e ∙ sym (ap (after_row v) plain)) (reaches_one c w v r))
     (in_or c v i))
-    (λ still. subst (Reaches c w) (sym (still_world v (row c protected v.state v.memory i) still)) r)
+    (λ fault. subst (Reaches c w) (sym (still_world v (row c protected v.state v.memory i) fault.still)) r)
     (row_plain c protected v.state v.memory i)
 
 -- ---- a run gives one answer

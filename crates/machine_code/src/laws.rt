@@ -9,11 +9,11 @@ ghost use Rattle.machine_code.specs.CodeView.{CodeView};
 ghost use Rattle.machine_code.specs.State.{State};
 ghost use Rattle.machine_code.specs.Row.{row};
 ghost use Rattle.machine_code.specs.Run.{World, Reaches, CodeRun, after, after_row, fed};
-ghost use Rattle.machine_code.specs.Still.{IsPlainOrStill};
+ghost use Rattle.machine_code.specs.Still.{IsPlainOrFault};
 
-/// Whatever pages are protected, an instruction does what it does with none, or leaves everything.
+/// Whatever pages are protected, an instruction does what it does with none; or it is a store into a protected page, which faults.
 pub fn rows_are_plain()
-    ensures law { (c : CodeView) (protected : ℕ → Bool) (s : State) (m : List ℕ) (i : Instr) → IsPlainOrStill c protected s m i }
+    ensures law { (c : CodeView) (protected : ℕ → Bool) (s : State) (m : List ℕ) (i : Instr) → IsPlainOrFault c protected s m i }
 {}
 
 /// A run that goes on from where another stopped is one run; and a step over pages of which some are protected keeps a run.

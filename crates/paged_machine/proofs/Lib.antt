@@ -11,3 +11,4 @@ pub mod Stays
 pub mod OneStep
 pub mod Tops
 pub mod Tells
+pub mod StopLaws

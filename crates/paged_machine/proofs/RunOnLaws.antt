@@ -10,56 +10,89 @@ use Rattle.machine_code.specs.declared.event.Event.{Event}
 use Rattle.machine_code.specs.declared.event.Event.TheVariants.{Ran, Ticked, WriteFault, Out, OutNumber, WantsInput, Checkpoint, Exclude, Ended, Trapped}
 use Rattle.machine_code.specs.CodeView.{CodeView}
 use Rattle.machine_code.specs.State.{State}
-use Rattle.machine_code.specs.Run.{World, world, next_row, Reaches}
-use Rattle.paged_machine.specs.RunOn.{AreStores, Answers, Behind, GoesOn, told_by, told, telling, ticks_of, live_behind}
+use Rattle.machine_code.specs.Run.{world, unprotected, next_row, after}
+use Rattle.machine_code.proofs.RunLaws.{after_both}
+use Rattle.paged_machine.specs.RunOn.{AreStores, Answers, Behind, WouldWrite, GoesOn, told_by, told, telling, done_by, done_of, ticks_of, live_behind}
 use Rattle.paged_machine.specs.Standing.{StandsIn}
 use Rattle.paged_machine.specs.Stepped.{Stepped, Still}
 use Rattle.paged_machine.specs.Rest.{rest, Shrinks}
-use Rattle.paged_machine.proofs.ToGo.{leaves, shrinks_on}
+use Rattle.paged_machine.proofs.ToGo.{leaves, pays, shrinks}
 use Rattle.machine_code.specs.Row.{Done}
 use Rattle.paged_machine.specs.MachineView.{MachineView, live_after}
+use Rattle.paged_machine.proofs.OneStep.{Leads, next_plain, no_fault}
 use Rattle.paged_machine.proofs.Tells.{ticked_at}
 use Rattle.paged_machine.proofs.Shows.{ShownBy, no_stores, both_stores}
 
+refl_le : (n : ℕ) → n ≤ n
+refl_le n = omega arith
+
+zero_le : (n : ℕ) → 0 ≤ n
+zero_le n = omega arith
+
 module _ (c : CodeView) (protected : ℕ → Bool) where
-  -- the run goes on from one standing to another and shows this
-  abbrev pub Leads : State → List ℕ → State → List ℕ → List run.Event → Type 0
-  Leads s m t n shown = (w : World) (input : List ℕ) (events : List run.Event) → Reaches c w (world s m input events) → Reaches c w (world t n input (events ++ shown))
+  told_alone : (s : State) (m : List ℕ) (e : Event) (t : State) (n : List ℕ) (shown : List run.Event) → shown ≡ told_by t.ticks (Some e) → Leads c (done_by e) s m t n shown → GoesOn c protected s m (Some e) t n
+  told_alone s m e t n shown is leads = record { count = done_by e; done = refl_le (done_by e); stores = []; open_pages = no_stores protected; comes = subst (Leads c (done_by e) s m t n) is leads }
 
-  told_alone : (s : State) (m : List ℕ) (answer : Option Event) (t : State) (n : List ℕ) (shown : List run.Event) → shown ≡ told_by t.ticks answer → Leads s m t n shown → GoesOn c protected s m answer t n
-  told_alone s m answer t n shown e leads = record { stores = []; unprotected = no_stores protected; reaches = subst (Leads s m t n) e leads }
-
-  stored_alone : (s : State) (m : List ℕ) (t : State) (n : List ℕ) (shown : List run.Event) → AreStores protected shown → Leads s m t n shown → GoesOn c protected s m None t n
-  stored_alone s m t n shown stores leads = record { stores = shown; unprotected = stores; reaches = subst (Leads s m t n) (sym (append-nil shown)) leads }
+  stored_alone : (k : ℕ) (s : State) (m : List ℕ) (t : State) (n : List ℕ) (shown : List run.Event) → AreStores protected shown → Leads c k s m t n shown → GoesOn c protected s m None t n
+  stored_alone k s m t n shown stores leads = record { count = k; done = zero_le k; stores = shown; open_pages = stores; comes = subst (Leads c k s m t n) (sym (append-nil shown)) leads }
 
   -- one instruction
-  pub goes_on : (s : State) (m : List ℕ) (e : Event) (t : State) (n : List ℕ) (shown : List run.Event) → ShownBy protected t.ticks e shown → Leads s m t n shown → GoesOn c protected s m (telling e) t n
-  goes_on s m Ran t n shown is leads = stored_alone s m t n shown is leads
-  goes_on s m Ticked t n shown is leads = told_alone s m None t n shown is leads
-  goes_on s m (WriteFault p) t n shown is leads = told_alone s m (Some (WriteFault p)) t n shown is leads
-  goes_on s m (Out b) t n shown is leads = told_alone s m (Some (Out b)) t n shown is leads
-  goes_on s m (OutNumber v) t n shown is leads = told_alone s m (Some (OutNumber v)) t n shown is leads
-  goes_on s m WantsInput t n shown is leads = told_alone s m (Some WantsInput) t n shown is leads
-  goes_on s m (Checkpoint k) t n shown is leads = told_alone s m (Some (Checkpoint k)) t n shown is leads
-  goes_on s m (Exclude k) t n shown is leads = told_alone s m (Some (Exclude k)) t n shown is leads
-  goes_on s m (Ended v) t n shown is leads = told_alone s m (Some (Ended v)) t n shown is leads
-  goes_on s m (Trapped k) t n shown is leads = told_alone s m (Some (Trapped k)) t n shown is leads
+  pub goes_on : (s : State) (m : List ℕ) (e : Event) (t : State) (n : List ℕ) (shown : List run.Event) → ShownBy protected t.ticks e shown → Leads c (done_by e) s m t n shown → GoesOn c protected s m (telling e) t n
+  goes_on s m Ran t n shown is leads = stored_alone 1 s m t n shown is leads
+  goes_on s m Ticked t n shown is leads = stored_alone 1 s m t n [] (no_stores protected) (subst (Leads c 1 s m t n) is leads)
+  goes_on s m (WriteFault p) t n shown is leads = told_alone s m (WriteFault p) t n shown is leads
+  goes_on s m (Out b) t n shown is leads = told_alone s m (Out b) t n shown is leads
+  goes_on s m (OutNumber v) t n shown is leads = told_alone s m (OutNumber v) t n shown is leads
+  goes_on s m WantsInput t n shown is leads = told_alone s m WantsInput t n shown is leads
+  goes_on s m (Checkpoint k) t n shown is leads = told_alone s m (Checkpoint k) t n shown is leads
+  goes_on s m (Exclude k) t n shown is leads = told_alone s m (Exclude k) t n shown is leads
+  goes_on s m (Ended v) t n shown is leads = told_alone s m (Ended v) t n shown is leads
+  goes_on s m (Trapped k) t n shown is leads = told_alone s m (Trapped k) t n shown is leads
+
+  pub goes_on_counted : (s : State) (m : List ℕ) (e : Event) (t : State) (n : List ℕ) (shown : List run.Event) (is : ShownBy protected t.ticks e shown) (leads : Leads c (done_by e) s m t n shown) → (goes_on s m e t n shown is leads).count ≡ done_by e
+  unfolding goes_on stored_alone told_alone
+  goes_on_counted s m Ran t n shown is leads = refl
+  goes_on_counted s m Ticked t n shown is leads = refl
+  goes_on_counted s m (WriteFault p) t n shown is leads = refl
+  goes_on_counted s m (Out b) t n shown is leads = refl
+  goes_on_counted s m (OutNumber v) t n shown is leads = refl
+  goes_on_counted s m WantsInput t n shown is leads = refl
+  goes_on_counted s m (Checkpoint k) t n shown is leads = refl
+  goes_on_counted s m (Exclude k) t n shown is leads = refl
+  goes_on_counted s m (Ended v) t n shown is leads = refl
+  goes_on_counted s m (Trapped k) t n shown is leads = refl
 
   -- no instruction
   pub stays_here : (s : State) (m : List ℕ) → GoesOn c protected s m None s m
-  stays_here s m = stored_alone s m s m [] (no_stores protected) (λ w input events r. subst (λ x. Reaches c w (world s m input x)) (sym (append-nil events)) r)
+  stays_here s m = stored_alone 0 s m s m [] (no_stores protected) (λ input events. ap (λ x. world s m input x) (sym (append-nil events)))
+
+  -- the same run, whose answer is called by another name
+  pub retold : (s : State) (m : List ℕ) (a b : Option Event) (t : State) (n : List ℕ) → a ≡ b → GoesOn c protected s m a t n → GoesOn c protected s m b t n
+  retold s m a b t n e g = record {
+    count = g.count;
+    done = subst (λ x. done_of x ≤ g.count) e g.done;
+    stores = g.stores;
+    open_pages = g.open_pages;
+    comes = subst (λ x. Leads c g.count s m t n (g.stores ++ told_by t.ticks x)) e g.comes;
+  }
+
+  -- and so with its count
+  pub counted_on : (s : State) (m : List ℕ) (a b : Option Event) (t : State) (n : List ℕ) (k old new : ℕ) → a ≡ b → (g : GoesOn c protected s m a t n) → g.count ≡ k → old ≡ k + new → (h : GoesOn c protected s m b t n) × (old ≡ h.count + new)
+  unfolding retold
+  counted_on s m a b t n k old new e g is all = (retold s m a b t n e g, omega (arith, is, all))
 
   -- one run behind another
   pub goes_further : (s : State) (m : List ℕ) (t : State) (n : List ℕ) (answer : Option Event) (u : State) (k : List ℕ) → GoesOn c protected s m None t n → GoesOn c protected t n answer u k → GoesOn c protected s m answer u k
   goes_further s m t n answer u k g h = record {
+    count = g.count + h.count;
+    done = let d = h.done in omega (arith, d);
     stores = g.stores ++ h.stores;
-    unprotected = both_stores protected g.stores h.stores g.unprotected h.unprotected;
-    reaches = λ w input events r.
+    open_pages = both_stores protected g.stores h.stores g.open_pages h.open_pages;
+    comes = λ input events.
         let told = told_by u.ticks answer in
-        let there = h.reaches w input (events ++ (g.stores ++ [])) (g.reaches w input events r) in
         let same : (events ++ (g.stores ++ [])) ++ (h.stores ++ told) ≡ events ++ ((g.stores ++ h.stores) ++ told) =
         ap (λ x. (events ++ x) ++ (h.stores ++ told)) (append-nil g.stores) ∙ append_assoc events g.stores (h.stores ++ told) ∙ ap (λ x. events ++ x) (sym (append_assoc g.stores h.stores told)) in
-        subst (λ x. Reaches c w (world u k input x)) same there;
+        sym (after_both c g.count h.count (world s m input events)) ∙ ap (after c h.count) (g.comes input events) ∙ h.comes input (events ++ (g.stores ++ [])) ∙ ap (λ x. world u k input x) same;
   }
 
 -- whether the machine is live is what its answer says
@@ -75,29 +108,44 @@ live_as_told (Exclude k) = refl
 live_as_told (Ended v) = refl
 live_as_told (Trapped k) = refl
 
-pub answers : (c : CodeView) (pages : PageStates) (s t : State) (m n : List ℕ) (e : Event) → e ≡ (next_row c (is_protected pages) s m).event → t ≡ (next_row c (is_protected pages) s m).state → n ≡ (next_row c (is_protected pages) s m).memory → Still e s m t n → (e ≡ WantsInput → slice_get c.instrs t.place ≡ Some In) → ((p : ℕ) → e ≡ WriteFault p → (p < length pages.dirty) × (is_protected pages p ≡ true)) → Answers c pages t n (telling e)
-answers c pages s t m n e is state memory still asked fault = by_event e is still asked fault
-  where
-    row_of : State → List ℕ → Done
-    row_of x y = next_row c (is_protected pages) x y
+-- what holds behind one instruction
+module _ (c : CodeView) (pages : PageStates) (s t : State) (m n : List ℕ) (state : t ≡ (next_row c (is_protected pages) s m).state) (memory : n ≡ (next_row c (is_protected pages) s m).memory) where
+  -- one that did not fault did what it does with no page protected
+  same_row : (e : Event) → e ≡ (next_row c (is_protected pages) s m).event → ((p : ℕ) → e ≡ WriteFault p → ⊥) → next_row c (is_protected pages) s m ≡ next_row c unprotected s m
+  same_row e is not = ⊎_elim (λ q. q) (λ f. absurd (not (f.cell / 512) (is ∙ f.event))) (next_plain c (is_protected pages) s m (slice_get c.instrs s.place))
 
-    behind : (f : Event) → f ≡ (row_of s m).event → Behind c (is_protected pages) f t n
-    behind f g = record { before = s; memory = m; event = sym g; state = sym state; cells = sym memory }
+  behind : (e : Event) → e ≡ (next_row c (is_protected pages) s m).event → ((p : ℕ) → e ≡ WriteFault p → ⊥) → Behind c e t n
+  behind e is not =
+      let q = same_row e is not in
+      record { before = s; memory = m; event = ap (λ (d : Done). d.event) (sym q) ∙ sym is; state = ap (λ (d : Done). d.state) (sym q) ∙ sym state; cells = ap (λ (d : Done). d.memory) (sym q) ∙ sym memory }
 
-    here : (f : Event) → f ≡ (row_of s m).event → (t ≡ s) × (n ≡ m) → (row_of t n).event ≡ f
-    here f g same = ap (λ (x : State). (row_of x n).event) same.0 ∙ ap (λ y. (row_of s y).event) same.1 ∙ sym g
+  here : (e : Event) → e ≡ (next_row c (is_protected pages) s m).event → ((p : ℕ) → e ≡ WriteFault p → ⊥) → (t ≡ s) × (n ≡ m) → (next_row c unprotected t n).event ≡ e
+  here e is not same = ap (λ (x : State). (next_row c unprotected x n).event) same.0 ∙ ap (λ y. (next_row c unprotected s y).event) same.1 ∙ ap (λ (d : Done). d.event) (sym (same_row e is not)) ∙ sym is
 
-    by_event : (f : Event) → f ≡ (row_of s m).event → Still f s m t n → (f ≡ WantsInput → slice_get c.instrs t.place ≡ Some In) → ((p : ℕ) → f ≡ WriteFault p → (p < length pages.dirty) × (is_protected pages p ≡ true)) → Answers c pages t n (telling f)
-    by_event Ran g same asked fault = tt
-    by_event Ticked g same asked fault = tt
-    by_event (WriteFault p) g same asked fault = ((fault p refl).0, here (WriteFault p) g same)
-    by_event (Out b) g same asked fault = behind (Out b) g
-    by_event (OutNumber v) g same asked fault = behind (OutNumber v) g
-    by_event WantsInput g same asked fault = asked refl
-    by_event (Checkpoint k) g same asked fault = behind (Checkpoint k) g
-    by_event (Exclude k) g same asked fault = behind (Exclude k) g
-    by_event (Ended v) g same asked fault = here (Ended v) g same
-    by_event (Trapped k) g same asked fault = here (Trapped k) g same
+  would : (p : ℕ) → WriteFault p ≡ (next_row c (is_protected pages) s m).event → (t ≡ s) × (n ≡ m) → (p < length pages.dirty) × (is_protected pages p ≡ true) → WouldWrite c pages t n p
+  would p is same on =
+      ⊎_elim
+      (λ q. absurd (no_fault c s m (slice_get c.instrs s.place) p (ap (λ (d : Done). d.event) (sym q) ∙ sym is)))
+      (λ f. record {
+        within = on.0;
+        closed = on.1;
+        cell = f.cell;
+        page = let z : WriteFault (f.cell / 512) ≡ WriteFault p = sym f.event ∙ sym is in cc;
+        shown = ap (λ (x : State). (next_row c unprotected x n).shown) same.0 ∙ ap (λ y. (next_row c unprotected s y).shown) same.1 ∙ f.shown;
+      })
+      (next_plain c (is_protected pages) s m (slice_get c.instrs s.place))
+
+  pub answers : (e : Event) → e ≡ (next_row c (is_protected pages) s m).event → Still e s m t n → (e ≡ WantsInput → slice_get c.instrs t.place ≡ Some In) → ((p : ℕ) → e ≡ WriteFault p → (p < length pages.dirty) × (is_protected pages p ≡ true)) → Answers c pages t n (telling e)
+  answers Ran is same asked fault = tt
+  answers Ticked is same asked fault = tt
+  answers (WriteFault p) is same asked fault = would p is same (fault p refl)
+  answers (Out b) is same asked fault = behind (Out b) is (λ p h. cc)
+  answers (OutNumber v) is same asked fault = behind (OutNumber v) is (λ p h. cc)
+  answers WantsInput is same asked fault = asked refl
+  answers (Checkpoint k) is same asked fault = behind (Checkpoint k) is (λ p h. cc)
+  answers (Exclude k) is same asked fault = behind (Exclude k) is (λ p h. cc)
+  answers (Ended v) is same asked fault = here (Ended v) is (λ p h. cc) same
+  answers (Trapped k) is same asked fault = here (Trapped k) is (λ p h. cc) same
 
 -- no tick is taken past the bound
 pub within_bound : (c : CodeView) (protected : ℕ → Bool) (s : State) (m : List ℕ) (first until now : ℕ) (e : Event) → e ≡ (next_row c protected s m).event → (slice_get c.instrs s.place ≡ Some Tick → s.ticks < until) → now ≡ s.ticks + ticks_of e → s.ticks ≤ max first until → now ≤ max first until
@@ -112,23 +160,23 @@ within_bound c protected s m first until now (Exclude k) is below ticks le = ome
 within_bound c protected s m first until now (Ended v) is below ticks le = omega (arith, ticks, le)
 within_bound c protected s m first until now (Trapped k) is below ticks le = omega (arith, ticks, le)
 
--- what holds of a run of instructions from v over m to the bound, whose last one answered this and left w over n
-pub record Holds (c : CodeView) (pages : PageStates) (until : ℕ) (v : MachineView) (m : List ℕ) (last : Option Event) (w : MachineView) (n : List ℕ) : Type 0 where
+-- what holds of a run of so many instructions from v over m to the bound, whose last one answered this and left w over n
+pub record Holds (c : CodeView) (pages : PageStates) (until : ℕ) (v : MachineView) (m : List ℕ) (count : ℕ) (last : Option Event) (w : MachineView) (n : List ℕ) : Type 0 where
   pub live : w.live ≡ live_behind (told last)
   pub stands : StandsIn c w
   pub size : length n ≡ length m
   pub spared : (cell : ℕ) → is_protected pages (cell / 512) ≡ true → slice_index n cell ≡ slice_index m cell
   pub within : w.state.ticks ≤ max v.state.ticks until
   pub goes : GoesOn c (is_protected pages) v.state m (told last) w.state n
+  pub counted : goes.count ≡ count
   pub answer : Answers c pages w.state n (told last)
+  pub paid : rest c until w.state + count ≤ rest c until v.state
   pub shrinks : Shrinks c until v.state last w.state
   pub stopped : last ≡ None → (slice_get c.instrs w.state.place ≡ Some Tick) × (until ≤ w.state.ticks)
 
-refl_le : (n : ℕ) → n ≤ n
-refl_le n = omega arith
-
 -- before the first instruction
-pub first_holds : (c : CodeView) (pages : PageStates) (until : ℕ) (v : MachineView) (m : List ℕ) → v.live ≡ true → StandsIn c v → Holds c pages until v m (Some Ran) v m
+pub first_holds : (c : CodeView) (pages : PageStates) (until : ℕ) (v : MachineView) (m : List ℕ) → v.live ≡ true → StandsIn c v → Holds c pages until v m 0 (Some Ran) v m
+unfolding stays_here stored_alone
 first_holds c pages until v m live stands = record {
   live = live;
   stands = stands;
@@ -136,45 +184,56 @@ first_holds c pages until v m live stands = record {
   spared = λ cell p. refl;
   within = le-max_left v.state.ticks until;
   goes = stays_here c (is_protected pages) v.state m;
+  counted = refl;
   answer = tt;
+  paid = omega arith;
   shrinks = refl_le (rest c until v.state);
   stopped = λ e. absurd (let f : Some Ran ≡ None = e in cc);
 }
 
-module _ (c : CodeView) (pages : PageStates) (until : ℕ) (v : MachineView) (m : List ℕ) (w : MachineView) (n : List ℕ) where
+module _ (c : CodeView) (pages : PageStates) (until : ℕ) (v : MachineView) (m : List ℕ) (count : ℕ) (w : MachineView) (n : List ℕ) where
   told_none : (last : Option Event) → ((last ≡ Some Ran) ⊎ (last ≡ Some Ticked)) → told last ≡ None
   told_none last on = ⊎_elim (λ e. ap told e) (λ e. ap told e) on
 
-  no_more : (last : Option Event) → ((last ≡ Some Ran) ⊎ (last ≡ Some Ticked)) → Shrinks c until v.state last w.state → rest c until w.state ≤ rest c until v.state
-  no_more last on h = ⊎_elim (λ e. subst (λ x. Shrinks c until v.state x w.state) e h) (λ e. subst (λ x. Shrinks c until v.state x w.state) e h) on
-
   -- the run stopped before a tick
-  stopped_holds : (last : Option Event) → ((last ≡ Some Ran) ⊎ (last ≡ Some Ticked)) → told last ≡ None → Holds c pages until v m last w n → (slice_get c.instrs w.state.place ≡ Some Tick) × (until ≤ w.state.ticks) → Holds c pages until v m None w n
-  stopped_holds last on none held at = record {
+  stopped_holds : (last : Option Event) → told last ≡ None → Holds c pages until v m count last w n → (slice_get c.instrs w.state.place ≡ Some Tick) × (until ≤ w.state.ticks) → Holds c pages until v m count None w n
+  unfolding retold
+  stopped_holds last none held at = record {
     live = held.live ∙ ap live_behind none;
     stands = held.stands;
     size = held.size;
     spared = held.spared;
     within = held.within;
-    goes = subst (λ a. GoesOn c (is_protected pages) v.state m a w.state n) none held.goes;
+    goes = retold c (is_protected pages) v.state m (told last) None w.state n none held.goes;
+    counted = held.counted;
     answer = tt;
-    shrinks = no_more last on held.shrinks;
+    paid = held.paid;
+    shrinks = let p = held.paid in omega (arith, p);
     stopped = λ e. at;
   }
 
   -- one more instruction
-  pub holds_after : (last : Option Event) → ((last ≡ Some Ran) ⊎ (last ≡ Some Ticked)) → Holds c pages until v m last w n → (now : Option Event) (x : MachineView) (k : List ℕ) → IfSome now (λ e. Stepped c pages w n e x k) → IfSome now (λ e. slice_get c.instrs w.state.place ≡ Some Tick → w.state.ticks < until) → (IsNone now → (slice_get c.instrs w.state.place ≡ Some Tick) × (until ≤ w.state.ticks) × (x ≡ w) × (k ≡ n)) → Holds c pages until v m now x k
+  pub holds_after : (last : Option Event) → ((last ≡ Some Ran) ⊎ (last ≡ Some Ticked)) → Holds c pages until v m count last w n → (now : Option Event) (x : MachineView) (k : List ℕ) → IfSome now (λ e. Stepped c pages w n e x k) → IfSome now (λ e. slice_get c.instrs w.state.place ≡ Some Tick → w.state.ticks < until) → (IsNone now → (slice_get c.instrs w.state.place ≡ Some Tick) × (until ≤ w.state.ticks) × (x ≡ w) × (k ≡ n)) → Holds c pages until v m (count + done_of now) now x k
+  unfolding goes_further retold
   holds_after last on held None x k did below stop =
       let at = stop refl in
-      subst (λ y. Holds c pages until v m None y k) (sym at.2) (subst (λ y. Holds c pages until v m None w y) (sym at.3) (stopped_holds last on (told_none last on) held (at.0, at.1)))
-  holds_after last on held (Some e) x k did below stop = record {
-    live = did.live ∙ live_as_told e;
-    stands = did.stands;
-    size = did.size ∙ held.size;
-    spared = λ cell p. did.spared cell p ∙ held.spared cell p;
-    within = within_bound c (is_protected pages) w.state n v.state.ticks until x.state.ticks e did.event below did.ticked held.within;
-    goes = goes_further c (is_protected pages) v.state m w.state n (telling e) x.state k (subst (λ a. GoesOn c (is_protected pages) v.state m a w.state n) (told_none last on) held.goes) did.shows;
-    answer = answers c pages w.state x.state n k e did.event did.state did.memory did.still did.asked did.fault;
-    shrinks = shrinks_on c until (is_protected pages) w.state n x.state v.state (no_more last on held.shrinks) e (leaves c until (is_protected pages) w.state n x.state e did.event below did.falls did.ticked did.limited);
-    stopped = λ f. absurd (let g : Some e ≡ None = f in cc);
-  }
+      let none : count ≡ count + 0 = omega arith in
+      subst (λ i. Holds c pages until v m i None x k) none
+      (subst (λ y. Holds c pages until v m count None y k) (sym at.2) (subst (λ y. Holds c pages until v m count None w y) (sym at.3) (stopped_holds last (told_none last on) held (at.0, at.1))))
+  holds_after last on held (Some e) x k did below stop =
+      let before = retold c (is_protected pages) v.state m (told last) None w.state n (told_none last on) held.goes in
+      let pay = pays c until (is_protected pages) w.state n x.state e (leaves c until (is_protected pages) w.state n x.state k e did.event below did.falls did.still did.ticked did.limited) in
+      let all : rest c until x.state + (count + done_by e) ≤ rest c until v.state = let p = held.paid in omega (arith, p, pay) in
+      record {
+        live = did.live ∙ live_as_told e;
+        stands = did.stands;
+        size = did.size ∙ held.size;
+        spared = λ cell p. did.spared cell p ∙ held.spared cell p;
+        within = within_bound c (is_protected pages) w.state n v.state.ticks until x.state.ticks e did.event below did.ticked held.within;
+        goes = goes_further c (is_protected pages) v.state m w.state n (telling e) x.state k before did.shows;
+        counted = let a = held.counted in let b = did.counted in omega (arith, a, b);
+        answer = did.answer;
+        paid = all;
+        shrinks = shrinks c until (count + done_by e) v.state x.state (Some e) all (omega arith);
+        stopped = λ f. absurd (let g : Some e ≡ None = f in cc);
+      }

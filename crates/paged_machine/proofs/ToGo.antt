@@ -10,9 +10,9 @@ use Rattle.machine_code.specs.State.{State}
 use Rattle.machine_code.specs.Run.{next_row}
 use Rattle.paged_machine.specs.Rank.{rank, rank_limit, Falls, Nearer}
 use Rattle.paged_machine.specs.Rest.{left_by, left, rest, Shrinks}
-use Rattle.paged_machine.specs.RunOn.{ticks_of}
+use Rattle.paged_machine.specs.RunOn.{ticks_of, done_by, done_of}
 use Rattle.paged_machine.specs.MachineView.{MachineView}
-use Rattle.paged_machine.specs.Stepped.{Stepped}
+use Rattle.paged_machine.specs.Stepped.{Stepped, Still}
 use Rattle.dirty_pages.specs.Pages.{PageStates, is_protected}
 use Rattle.paged_machine.proofs.Tells.{ticked_at, tick_ticks}
 
@@ -69,34 +69,37 @@ module _ (c : CodeView) (until : ℕ) (protected : ℕ → Bool) (s : State) (m 
   abbrev pub Leaves : Event → Type 0
   Leaves (WriteFault p) = t ≡ s
   Leaves WantsInput = t ≡ s
-  Leaves (Ended v) = Unit {0}
-  Leaves (Trapped k) = Unit {0}
+  Leaves (Ended v) = t ≡ s
+  Leaves (Trapped k) = t ≡ s
   Leaves e = rest c until t < rest c until s
 
-  pub leaves : (e : Event) → e ≡ (next_row c protected s m).event → (slice_get c.instrs s.place ≡ Some Tick → s.ticks < until) → Falls c s e t → t.ticks ≡ s.ticks + ticks_of e → rank c t ≤ rank_limit c → Leaves e
-  leaves Ran is below fall ticks most = nearer (no_tick Ran is (λ f. let g : Ran ≡ Ticked = f in cc)) (omega (arith, ticks)) fall
-  leaves Ticked is below fall ticks most = let at = ticked_at c protected s m _ (sym is) in ticks_less at (below at) ticks most
-  leaves (WriteFault p) is below fall ticks most = fall
-  leaves (Out b) is below fall ticks most = nearer (no_tick (Out b) is (λ f. let g : Out b ≡ Ticked = f in cc)) (omega (arith, ticks)) fall
-  leaves (OutNumber v) is below fall ticks most = nearer (no_tick (OutNumber v) is (λ f. let g : OutNumber v ≡ Ticked = f in cc)) (omega (arith, ticks)) fall
-  leaves WantsInput is below fall ticks most = fall
-  leaves (Checkpoint k) is below fall ticks most = nearer (no_tick (Checkpoint k) is (λ f. let g : Checkpoint k ≡ Ticked = f in cc)) (omega (arith, ticks)) fall
-  leaves (Exclude k) is below fall ticks most = nearer (no_tick (Exclude k) is (λ f. let g : Exclude k ≡ Ticked = f in cc)) (omega (arith, ticks)) fall
-  leaves (Ended v) is below fall ticks most = tt
-  leaves (Trapped k) is below fall ticks most = tt
+  pub leaves : (n : List ℕ) (e : Event) → e ≡ (next_row c protected s m).event → (slice_get c.instrs s.place ≡ Some Tick → s.ticks < until) → Falls c s e t → Still e s m t n → t.ticks ≡ s.ticks + ticks_of e → rank c t ≤ rank_limit c → Leaves e
+  leaves n Ran is below fall still ticks most = nearer (no_tick Ran is (λ f. let g : Ran ≡ Ticked = f in cc)) (omega (arith, ticks)) fall
+  leaves n Ticked is below fall still ticks most = let at = ticked_at c protected s m _ (sym is) in ticks_less at (below at) ticks most
+  leaves n (WriteFault p) is below fall still ticks most = fall
+  leaves n (Out b) is below fall still ticks most = nearer (no_tick (Out b) is (λ f. let g : Out b ≡ Ticked = f in cc)) (omega (arith, ticks)) fall
+  leaves n (OutNumber v) is below fall still ticks most = nearer (no_tick (OutNumber v) is (λ f. let g : OutNumber v ≡ Ticked = f in cc)) (omega (arith, ticks)) fall
+  leaves n WantsInput is below fall still ticks most = fall
+  leaves n (Checkpoint k) is below fall still ticks most = nearer (no_tick (Checkpoint k) is (λ f. let g : Checkpoint k ≡ Ticked = f in cc)) (omega (arith, ticks)) fall
+  leaves n (Exclude k) is below fall still ticks most = nearer (no_tick (Exclude k) is (λ f. let g : Exclude k ≡ Ticked = f in cc)) (omega (arith, ticks)) fall
+  leaves n (Ended v) is below fall still ticks most = still.0
+  leaves n (Trapped k) is below fall still ticks most = still.0
 
-  -- behind a run that left no more than at first
-  pub shrinks_on : (first : State) → rest c until s ≤ rest c until first → (e : Event) → Leaves e → Shrinks c until first (Some e) t
-  shrinks_on first le Ran h = omega (arith, le, h)
-  shrinks_on first le Ticked h = omega (arith, le, h)
-  shrinks_on first le (WriteFault p) h = subst (λ (x : State). rest c until x ≤ rest c until first) (sym h) le
-  shrinks_on first le (Out b) h = omega (arith, le, h)
-  shrinks_on first le (OutNumber v) h = omega (arith, le, h)
-  shrinks_on first le WantsInput h = subst (λ (x : State). rest c until x ≤ rest c until first) (sym h) le
-  shrinks_on first le (Checkpoint k) h = omega (arith, le, h)
-  shrinks_on first le (Exclude k) h = omega (arith, le, h)
-  shrinks_on first le (Ended v) h = tt
-  shrinks_on first le (Trapped k) h = tt
+  as_much : t ≡ s → rest c until t + 0 ≤ rest c until s
+  as_much e = let q : rest c until t ≡ rest c until s = ap (rest c until) e in omega (arith, q)
+
+  -- each instruction that is done leaves less
+  pub pays : (e : Event) → Leaves e → rest c until t + done_by e ≤ rest c until s
+  pays Ran h = omega (arith, h)
+  pays Ticked h = omega (arith, h)
+  pays (WriteFault p) h = as_much h
+  pays (Out b) h = omega (arith, h)
+  pays (OutNumber v) h = omega (arith, h)
+  pays WantsInput h = as_much h
+  pays (Checkpoint k) h = omega (arith, h)
+  pays (Exclude k) h = omega (arith, h)
+  pays (Ended v) h = as_much h
+  pays (Trapped k) h = as_much h
 
   pub less_to_go : (e : Event) → Leaves e → to_go c until t (Some e) < rest c until s
   less_to_go Ran h = h
@@ -110,6 +113,20 @@ module _ (c : CodeView) (until : ℕ) (protected : ℕ → Bool) (s : State) (m 
   less_to_go (Ended v) h = omega arith
   less_to_go (Trapped k) h = omega arith
 
+-- a run that paid for what it did leaves less of the run behind each answer that its caller need not have done again
+pub shrinks : (c : CodeView) (until count : ℕ) (s t : State) (answer : Option Event) → rest c until t + count ≤ rest c until s → done_of answer ≤ count → Shrinks c until s answer t
+shrinks c until count s t None paid done = omega (arith, paid)
+shrinks c until count s t (Some Ran) paid done = omega (arith, paid)
+shrinks c until count s t (Some Ticked) paid done = omega (arith, paid)
+shrinks c until count s t (Some (WriteFault p)) paid done = omega (arith, paid)
+shrinks c until count s t (Some (Out b)) paid done = omega (arith, paid, done)
+shrinks c until count s t (Some (OutNumber v)) paid done = omega (arith, paid, done)
+shrinks c until count s t (Some WantsInput) paid done = omega (arith, paid)
+shrinks c until count s t (Some (Checkpoint k)) paid done = omega (arith, paid, done)
+shrinks c until count s t (Some (Exclude k)) paid done = omega (arith, paid, done)
+shrinks c until count s t (Some (Ended v)) paid done = tt
+shrinks c until count s t (Some (Trapped k)) paid done = tt
+
 -- an input that is given takes no tick
 pub given_shrinks : (c : CodeView) (until : ℕ) (s t : State) → slice_get c.instrs s.place ≡ Some In → t.ticks ≡ s.ticks → Nearer c s t → rest c until t < rest c until s
 given_shrinks c until s t at same near = nearer c until (λ p. false) s [] t (λ e. let f : Some In ≡ Some Tick = sym at ∙ e in cc) same near
@@ -118,4 +135,4 @@ given_shrinks c until s t at same near = nearer c until (λ p. false) s [] t (λ
 pub less_after : (c : CodeView) (until : ℕ) (pages : PageStates) (v w : MachineView) (m n : List ℕ) (last : Option Event) → IfSome last (λ e. Stepped c pages v m e w n) → IfSome last (λ e. slice_get c.instrs v.state.place ≡ Some Tick → v.state.ticks < until) → to_go c until w.state last < rest c until v.state
 less_after c until pages v w m n None did below = omega arith
 less_after c until pages v w m n (Some e) did below =
-    less_to_go c until (is_protected pages) v.state m w.state e (leaves c until (is_protected pages) v.state m w.state e did.event below did.falls did.ticked did.limited)
+    less_to_go c until (is_protected pages) v.state m w.state e (leaves c until (is_protected pages) v.state m w.state n e did.event below did.falls did.still did.ticked did.limited)

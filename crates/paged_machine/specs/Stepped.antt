@@ -12,7 +12,7 @@ use Rattle.machine_code.specs.Run.{World, world, next_row, Reaches}
 use Rattle.paged_machine.specs.MachineView.{MachineView, live_after, after_done}
 use Rattle.paged_machine.specs.Standing.{StandsIn}
 use Rattle.paged_machine.specs.Rank.{Falls, rank, rank_limit}
-use Rattle.paged_machine.specs.RunOn.{GoesOn, telling, ticks_of}
+use Rattle.paged_machine.specs.RunOn.{GoesOn, Answers, telling, done_by, ticks_of}
 
 -- a row was done: this is the machine after it, the memory, and what the machine answers
 abbrev pub DoneBy : Done → MachineView → MachineView → List ℕ → Event → Type 0
@@ -43,3 +43,5 @@ pub record Stepped (c : CodeView) (pages : PageStates) (v : MachineView) (m : Li
   pub still : Still e v.state m w.state n
   pub ticked : w.state.ticks ≡ v.state.ticks + ticks_of e
   pub shows : GoesOn c (is_protected pages) v.state m (telling e) w.state n
+  pub counted : shows.count ≡ done_by e
+  pub answer : Answers c pages w.state n (telling e)

@@ -9,6 +9,7 @@
 //! memory, and `falls`, that each comes nearer to a tick; or by `run_on`, which does as many as tell nothing.
 #![tactic(auto)]
 
+mod laws;
 mod machine;
 mod pointer;
 mod stack;
@@ -16,6 +17,7 @@ mod steps;
 #[cfg(test)]
 mod tests;
 
+pub use laws::{answers_stop_runs, served_stores_come_first};
 pub use machine::Machine;
 pub use machine_code::Event;
 pub use steps::Steps;

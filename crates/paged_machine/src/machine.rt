@@ -21,7 +21,7 @@ ghost use Rattle.paged_machine.specs.Ready.{Ready, CallFits, IsCell};
 ghost use Rattle.paged_machine.specs.RunOn as spec;
 ghost use Rattle.paged_machine.specs.Rest.{Shrinks, rest};
 ghost use Rattle.paged_machine.specs.Stepped.{Stepped, DoneBy};
-ghost use Rattle.paged_machine.specs.RunOn.{Answers, GoesOn, ticks_of, live_behind};
+ghost use Rattle.paged_machine.specs.RunOn.{Answers, GoesOn, telling, done_of, ticks_of, live_behind};
 
 use crate::pointer::{cell, moved, moved_back};
 use crate::stack::{Locals, Stack};
@@ -131,6 +131,7 @@ impl Machine {
         ensures falls { Falls code.now self.old.state result self.new.state }
         ensures limited { rank code.now self.new.state ≤ rank_limit code.now }
         ensures ticked { self.new.state.ticks ≡ self.old.state.ticks + ticks_of result }
+        ensures answer { Answers code.now pages.now self.new.state frames.new (telling result) }
     {
         if let Some(event) = self.turn(code, frames, pages, u64::MAX, steps) {
             return event;
@@ -171,6 +172,41 @@ impl Machine {
             last = self.turn(code, frames, pages, until, steps);
         }
         last
+    }
+
+    /// Does instructions like `run_on`, but at most `left` of them, and takes from `left` those that it did. None comes also where none is left.
+    ///
+    /// A write fault, a wanted input, the end and a trap are not done, so they take nothing.
+    #[inline(always)]
+    pub fn run_for<L: Ledger>(
+        &mut self,
+        code: &Code,
+        frames: &mut Frames,
+        pages: &Pages,
+        until: u64,
+        left: &mut u64,
+        steps: &mut Steps<L>,
+    ) -> Option<Event>
+        requires live { self.old.live ≡ true }
+        requires stands { StandsIn code.now self.old }
+        requires fit { FitTogether code.now frames.old pages.now }
+        ensures live { self.new.live ≡ live_behind result }
+        ensures stands { StandsIn code.now self.new }
+        ensures size { length frames.new ≡ length frames.old }
+        ensures spared { (cell : ℕ) → is_protected pages.now (cell / 512) ≡ true → slice_index frames.new cell ≡ slice_index frames.old cell }
+        ensures steps { steps.new + self.old.state.ticks ≡ steps.old + self.new.state.ticks }
+        ensures within { self.new.state.ticks ≤ max self.old.state.ticks until }
+        ensures stopped { result ≡ None → (left.new ≡ 0) ⊎ ((slice_get code.now.instrs self.new.state.place ≡ Some Instr.Tick) × (until ≤ self.new.state.ticks)) }
+        ensures goes { (goes : GoesOn code.now (is_protected pages.now) self.old.state frames.old result self.new.state frames.new) × (left.old ≡ goes.count + left.new) }
+        ensures answer { Answers code.now pages.now self.new.state frames.new result }
+        ensures paid { rest code.now until self.new.state + left.old ≤ rest code.now until self.old.state + left.new }
+    {
+        let mut last = Some(Event::Ran);
+        'turns: while is_left(*left, last) {
+            last = self.turn(code, frames, pages, until, steps);
+            *left -= done(last);
+        }
+        told(last)
     }
 
     /// Answers a `WantsInput` with a value, and goes on.
@@ -598,6 +634,44 @@ fn goes_on(last: Option<Event>) -> bool
         Some(Event::Ran) => true,
         Some(Event::Ticked) => true,
         _ => false,
+    }
+}
+
+/// Whether a run of at most `left` instructions goes on over an answer.
+#[inline(always)]
+fn is_left(left: u64, last: Option<Event>) -> bool
+    ensures some { result ≡ true → 0 < left }
+    ensures on { result ≡ true → (last ≡ Some Event.Ran) ⊎ (last ≡ Some Event.Ticked) }
+    ensures over { result ≡ false → (left ≡ 0) ⊎ (spec.told last ≡ last) }
+{
+    left > 0 && goes_on(last)
+}
+
+/// How many instructions were done where one answered this.
+#[inline(always)]
+fn done(last: Option<Event>) -> u64
+    ensures answer { result ≡ done_of last }
+    ensures few { result ≤ 1 }
+{
+    match last {
+        None => 0,
+        Some(Event::WriteFault(_)) => 0,
+        Some(Event::WantsInput) => 0,
+        Some(Event::Ended(_)) => 0,
+        Some(Event::Trapped(_)) => 0,
+        Some(_) => 1,
+    }
+}
+
+/// The answer of a run of instructions whose last one answered this.
+#[inline(always)]
+fn told(last: Option<Event>) -> Option<Event>
+    ensures { result ≡ spec.told last }
+{
+    match last {
+        Some(Event::Ran) => None,
+        Some(Event::Ticked) => None,
+        answer => answer,
     }
 }
 

@@ -1,11 +1,12 @@
-use Rattle.std.proofs.Common.{◌≡◌, ◌+◌}
+use Rattle.std.proofs.Common.{◌≡◌, ◌+◌, ℕ}
 use Rattle.paged_machine.proofs.RunOnLaws.{Holds}
 use Rattle.paged_machine.proofs.ToGo.{to_go}
 use Rattle.paged_machine.proofs.machine.Machine.run_on.Given as goal
 
 abbrev pub invariant-turns : goal.invariant-turns
 invariant-turns g l = record {
-  held : Holds l.code l.pages l.until l.fn.self l.fn.frames l.last l.self l.frames;
+  count : ℕ;
+  held : Holds l.code l.pages l.until l.fn.self l.fn.frames count l.last l.self l.frames;
   steps : l.steps + l.fn.self.state.ticks ≡ l.fn.steps + l.self.state.ticks;
 }
 

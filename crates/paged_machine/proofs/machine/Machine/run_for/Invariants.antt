@@ -1,0 +1,15 @@
+use Rattle.std.proofs.Common.{◌≡◌, ◌+◌, ◌≤◌, ℕ}
+use Rattle.paged_machine.proofs.RunOnLaws.{Holds}
+use Rattle.paged_machine.proofs.ToGo.{to_go}
+use Rattle.paged_machine.proofs.machine.Machine.run_for.Given as goal
+
+abbrev pub invariant-turns : goal.invariant-turns
+invariant-turns g l = record {
+  count : ℕ;
+  counted : l.fn.left ≡ count + l.left;
+  held : Holds l.code l.pages l.until l.fn.self l.fn.frames count l.last l.self l.frames;
+  steps : l.steps + l.fn.self.state.ticks ≡ l.fn.steps + l.self.state.ticks;
+}
+
+abbrev pub decreases-turns : goal.decreases-turns
+decreases-turns g l = to_go l.code l.until l.self.state l.last
