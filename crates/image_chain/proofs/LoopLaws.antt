@@ -13,19 +13,19 @@ use Rattle.image_format.specs.Image.{Image}
 use Rattle.image_chain.specs.declared.chain.Current.{Current}
 use Rattle.image_chain.specs.declared.chain.Step.{Step}
 use Rattle.image_chain.specs.declared.chain.Step.TheVariants.{Piece, SyncRecord, OpenGate, SyncGate, Done}
-use Rattle.image_chain.specs.Append.{header_of, front, other, Keeps, Alone, IsAtRest, IsDue, Stands, Spells, IsInside, IsInsideOrDone, SameCurrent, TakesOver, IfLast, next_of, due_after, left_to_do}
+use Rattle.image_chain.specs.Append.{header_of, front, other, Keeps, Alone, IsAtRest, IsDue, IsDueNext, Spells, IsInside, IsInsideOrDone, SameCurrent, TakesOver, IfLast, next_of, due_after, left_to_do}
 use Rattle.image_chain.specs.Lists.{Lists, IsAppended, IsLeftIn, Makes, SoFar}
 use Rattle.image_chain.proofs.ListLaws.{Holds, holds_of, lists_of}
 use Rattle.image_chain.proofs.OutputLaws.{same_output}
 use Rattle.image_chain.proofs.StepLaws.{IsBefore, front_and_gate, current_twice, kept_gate, torn_list, aside_more, reads_list, reads_more}
 
-lt-yes : (a b : ℕ) → a < b → nat_lt a b ≡ true
+pub lt-yes : (a b : ℕ) → a < b → nat_lt a b ≡ true
 lt-yes a b less = grind (arith, nat_tests)
 
-lt-no : (a b : ℕ) → b ≤ a → nat_lt a b ≡ false
+pub lt-no : (a b : ℕ) → b ≤ a → nat_lt a b ≡ false
 lt-no a b less = grind (arith, nat_tests)
 
-pub stands_due : (chain : Current) (v : View) (rs : List Image) (r : Image) (image : List ℕ) (at : Step) (n : ℕ) → IsInside at n → Stands chain v rs r image at → IsDue chain v rs image at
+pub stands_due : (chain : Current) (v : View) (rs : List Image) (r : Image) (image : List ℕ) (at : Step) (n : ℕ) → IsInside at n → IsDueNext chain v rs r image at → IsDue chain v rs image at
 stands_due chain v rs r image (Piece i) n inside due = due
 stands_due chain v rs r image SyncRecord n inside due = due
 stands_due chain v rs r image OpenGate n inside due = due
@@ -44,7 +44,7 @@ pub rest_lists : (chain : Current) (v : View) (rs : List Image) (behind : List �
 rest_lists chain v rs behind rest c left = lists_of chain rs rest.gate behind c (holds_of chain rs rest.keeps) rest.alone.image_file rest.closed (rest.left c left) (rest.alone.aside c left)
 
 -- at rest the first piece is due
-rest_due : (chain : Current) (v : View) (rs : List Image) (image behind : List ℕ) → IsAtRest chain v rs behind → IsDue chain v rs image (Piece 0)
+pub rest_due : (chain : Current) (v : View) (rs : List Image) (image behind : List ℕ) → IsAtRest chain v rs behind → IsDue chain v rs image (Piece 0)
 rest_due chain v rs image behind rest = record {
   keeps = rest.keeps;
   alone = rest.alone;
@@ -77,7 +77,7 @@ output_goes_on start chain after old mid new rs r image at result tells spells i
     let mid_tells = subst IsTrue (sym so_far.moments.tells) tells in
     stays_twice Output old mid new so_far.output (makes mid_tells rs r spells (stands_due chain mid rs r image at (length image) inside so_far.due)).output
 
-pub due_next : (chain after : Current) (mid new : View) (rs : List Image) (r : Image) (image : List ℕ) (at next : Step) → IsTrue mid.tells → Spells r image → IsInside at (length image) → Stands chain mid rs r image at → Makes chain after image at (Ok next) mid new → Stands after new rs r image next
+pub due_next : (chain after : Current) (mid new : View) (rs : List Image) (r : Image) (image : List ℕ) (at next : Step) → IsTrue mid.tells → Spells r image → IsInside at (length image) → IsDueNext chain mid rs r image at → Makes chain after image at (Ok next) mid new → IsDueNext after new rs r image next
 due_next chain after mid new rs r image at next tells spells inside due makes = (makes tells rs r spells (stands_due chain mid rs r image at (length image) inside due)).due
 
 pub inside_next : (at : Step) (n : ℕ) → IsInside at n → IsInsideOrDone (next_of at n) n

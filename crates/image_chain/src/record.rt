@@ -1,5 +1,5 @@
 //! What a chain tells, and its records.
-ghost use Rattle.std.specs.Prelude.{◌≡◌, ◌⊎◌, ◌<◌, ◌≤◌, ◌+◌, List, ◌∷◌, [], ◌++◌, length, take, IsTrue, IfOk, IfErr, IsSome, Option, None, Ok, OnOk};
+ghost use Rattle.std.specs.Prelude.{◌≡◌, ◌⊎◌, ◌<◌, ◌≤◌, ◌+◌, ℕ, List, ◌∷◌, [], ◌++◌, length, take, IsTrue, IfOk, IfErr, IsSome, Option, None, Ok, OnOk};
 ghost use Rattle.disk_model.specs.Store.{Store, file_of};
 ghost use Rattle.image_format.specs.Image.{Image};
 ghost use Rattle.image_chain.specs.Records.{newest_of, broken_field};
@@ -104,13 +104,14 @@ impl Chain {
         self.current.spans[i as usize]
     }
 
-    /// What a chain at rest tells of its records, and what reads and crashes give of it.
+    /// What a chain at rest tells of its records, and what reads and crashes give of it. The first piece of any record is due.
     pub fn tells<D: Disk>(&self, disk: &D)
         ensures count { IsTrue (D.view disk.now).tells → (rs : List Image) → Rests self.now (D.view disk.now) rs → self.now.current.count ≡ length rs }
         ensures newest { IsTrue (D.view disk.now).tells → (rs : List Image) → Rests self.now (D.view disk.now) rs → self.now.current.newest ≡ newest_of None rs }
         ensures newest_place { IsTrue (D.view disk.now).tells → (rs : List Image) → Rests self.now (D.view disk.now) rs → (before : List Image) (r : Image) → rs ≡ before ++ r ∷ [] → self.now.current.newest_at ≡ 16 + chained_length before }
         ensures reads { IsTrue (D.view disk.now).tells → (rs : List Image) → Rests self.now (D.view disk.now) rs → Lists self.now.current rs (D.view disk.now).seen }
         ensures lasting { IsTrue (D.view disk.now).tells → (rs : List Image) → Rests self.now (D.view disk.now) rs → (c : Store) → (D.view disk.now).may_leave c → Lists self.now.current rs c }
+        ensures begins { (rs : List Image) (image : List ℕ) → Rests self.now (D.view disk.now) rs → IsDue self.now.current (D.view disk.now) rs image (Step.Piece 0) }
     {}
 
     /// What reads and crashes give of the records while a step of an append of this record is due.
