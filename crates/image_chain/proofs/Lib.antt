@@ -28,3 +28,5 @@ pub mod ShownLaws
 pub mod BesideLaws
 -- the order of the steps of an append
 pub mod OrderLaws
+-- a store that is cleared
+pub mod ClearLaws

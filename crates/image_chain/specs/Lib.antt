@@ -10,6 +10,8 @@ pub mod Append
 pub mod Lists
 -- what a joining leaves in the other image file, call by call, and of the chain
 pub mod Replace
+-- a store that is cleared
+pub mod Clear
 -- what a call answers of a store, and what it leaves of the disk
 pub mod Looking
 -- how far the records of a file were read

@@ -8,6 +8,7 @@
 
 mod append;
 mod chain;
+mod clear;
 mod fault;
 mod kept;
 mod laws;
