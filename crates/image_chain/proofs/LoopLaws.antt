@@ -6,7 +6,7 @@ use Rattle.std.proofs.lemmas.Bool.Decides.{nat_tests}
 use Rattle.ckpt_base.specs.declared.errors.Failed.{Failed}
 use Rattle.disk_model.specs.Store.{Store, file_of}
 use Rattle.disk_model.specs.declared.disk_file.DiskFile.TheVariants.{Output}
-use Rattle.disk_model.specs.View.{View, IsDisk, SameFile}
+use Rattle.disk_model.specs.View.{View, IsDisk, OnlySyncs, SameFile}
 use Rattle.disk_model.specs.Moments.{Among, LeavesOnly}
 use Rattle.disk_model.proofs.Calls.{still, joined, stays_twice}
 use Rattle.image_format.specs.Image.{Image}
@@ -179,3 +179,19 @@ pub open_leaves : (chain : Current) (v : View) (rs : List Image) (r : Image) (im
 open_leaves chain v rs r image spells holds due c left =
     let torn = due.left c left in
     ⊎_elim (λ b. inl (lists_before chain v rs c due.keeps due.alone left b)) (λ b. inr (lists_after chain v rs r c holds due.alone left b)) (torn_list chain rs r image due.behind torn.0 (file_of chain.file c) spells torn.1)
+
+-- a sync gives what it gave before, also where it fails
+pub synced_reads : (chain : Current) (old new : View) (rs : List Image) (r : Image) (image : List ℕ) → IsDisk old → OnlySyncs old new → Spells r image → Holds (header_of chain) (rs ++ r ∷ []) → IsDue chain old rs image SyncGate → Lists chain (rs ++ r ∷ []) new.seen
+synced_reads chain old new rs r image disk only spells holds due = subst (λ (s : Store). Lists chain (rs ++ r ∷ []) s) (sym only.seen) (open_reads chain old rs r image disk spells holds due)
+
+pub piece_no_gate : (i : ℕ) → Piece i ≡ SyncGate → ⊥
+piece_no_gate i e = cc
+
+pub record_no_gate : SyncRecord ≡ SyncGate → ⊥
+record_no_gate e = cc
+
+pub open_no_gate : OpenGate ≡ SyncGate → ⊥
+open_no_gate e = cc
+
+pub done_no_gate : Done ≡ SyncGate → ⊥
+done_no_gate e = cc

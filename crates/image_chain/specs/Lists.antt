@@ -57,6 +57,8 @@ ReadsAfter Done chain rs r = Lists chain rs
 pub record Promise (before after : Current) (r : Image) (image : List ℕ) (at : Step) (result : Result Step Failed) (old new : View) (rs : List Image) : Type 0 where
   pub due : IfOk result (IsDueNext after new rs r image)
   pub reads : IfOk result (λ _. ReadsAfter at before rs r new.seen)
+  -- also where the last sync fails
+  pub opened : at ≡ SyncGate → Lists before (rs ++ r ∷ []) new.seen
   pub moments : LeavesOnly old new (Among old.may_leave (IsLeftIn at before rs r))
   pub output : SameFile Output old new
 
