@@ -30,3 +30,5 @@ pub mod BesideLaws
 pub mod OrderLaws
 -- a store that is cleared
 pub mod ClearLaws
+-- a chain that is found, and the files that it is found in
+pub mod FoundLaws

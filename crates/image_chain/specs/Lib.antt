@@ -1,5 +1,7 @@
 -- the chain of a store: its files, their records, and every kind of damage
 pub mod Records
+-- the records of a store, and those of one image file with its header
+pub mod Files
 -- what records give each cell
 pub mod Memory
 -- what a chain keeps of its file, whatever its disk tells

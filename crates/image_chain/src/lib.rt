@@ -24,5 +24,5 @@ mod tests;
 pub use chain::{Chain, Step};
 pub use fault::ChainFault;
 pub use kept::Kept;
-pub use laws::steps_follow;
+pub use laws::{found_chains_are_there, steps_follow};
 pub use room::ChainRoom;
