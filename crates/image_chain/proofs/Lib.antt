@@ -24,3 +24,11 @@ pub mod WalkLaws
 pub mod OpenLaws
 -- the record that stands at a known place
 pub mod ShownLaws
+-- a chain beside calls on other files
+pub mod BesideLaws
+-- the order of the steps of an append
+pub mod OrderLaws
+-- a store that is cleared
+pub mod ClearLaws
+-- a chain that is found, and the files that it is found in
+pub mod FoundLaws

@@ -6,26 +6,26 @@ use Rattle.std.proofs.lemmas.Bool.Decides.{nat_tests}
 use Rattle.ckpt_base.specs.declared.errors.Failed.{Failed}
 use Rattle.disk_model.specs.Store.{Store, file_of}
 use Rattle.disk_model.specs.declared.disk_file.DiskFile.TheVariants.{Output}
-use Rattle.disk_model.specs.View.{View, IsDisk, SameFile}
+use Rattle.disk_model.specs.View.{View, IsDisk, OnlySyncs, SameFile}
 use Rattle.disk_model.specs.Moments.{Among, LeavesOnly}
 use Rattle.disk_model.proofs.Calls.{still, joined, stays_twice}
 use Rattle.image_format.specs.Image.{Image}
 use Rattle.image_chain.specs.declared.chain.Current.{Current}
 use Rattle.image_chain.specs.declared.chain.Step.{Step}
 use Rattle.image_chain.specs.declared.chain.Step.TheVariants.{Piece, SyncRecord, OpenGate, SyncGate, Done}
-use Rattle.image_chain.specs.Append.{header_of, front, other, Keeps, Alone, IsAtRest, IsDue, Stands, Spells, IsInside, IsInsideOrDone, SameCurrent, TakesOver, IfLast, next_of, due_after, left_to_do}
+use Rattle.image_chain.specs.Append.{header_of, front, other, Keeps, Alone, IsAtRest, IsDue, IsDueNext, Spells, IsInside, IsInsideOrDone, SameCurrent, TakesOver, IfLast, next_of, due_after, left_to_do}
 use Rattle.image_chain.specs.Lists.{Lists, IsAppended, IsLeftIn, Makes, SoFar}
 use Rattle.image_chain.proofs.ListLaws.{Holds, holds_of, lists_of}
 use Rattle.image_chain.proofs.OutputLaws.{same_output}
 use Rattle.image_chain.proofs.StepLaws.{IsBefore, front_and_gate, current_twice, kept_gate, torn_list, aside_more, reads_list, reads_more}
 
-lt-yes : (a b : ℕ) → a < b → nat_lt a b ≡ true
+pub lt-yes : (a b : ℕ) → a < b → nat_lt a b ≡ true
 lt-yes a b less = grind (arith, nat_tests)
 
-lt-no : (a b : ℕ) → b ≤ a → nat_lt a b ≡ false
+pub lt-no : (a b : ℕ) → b ≤ a → nat_lt a b ≡ false
 lt-no a b less = grind (arith, nat_tests)
 
-pub stands_due : (chain : Current) (v : View) (rs : List Image) (r : Image) (image : List ℕ) (at : Step) (n : ℕ) → IsInside at n → Stands chain v rs r image at → IsDue chain v rs image at
+pub stands_due : (chain : Current) (v : View) (rs : List Image) (r : Image) (image : List ℕ) (at : Step) (n : ℕ) → IsInside at n → IsDueNext chain v rs r image at → IsDue chain v rs image at
 stands_due chain v rs r image (Piece i) n inside due = due
 stands_due chain v rs r image SyncRecord n inside due = due
 stands_due chain v rs r image OpenGate n inside due = due
@@ -44,7 +44,7 @@ pub rest_lists : (chain : Current) (v : View) (rs : List Image) (behind : List �
 rest_lists chain v rs behind rest c left = lists_of chain rs rest.gate behind c (holds_of chain rs rest.keeps) rest.alone.image_file rest.closed (rest.left c left) (rest.alone.aside c left)
 
 -- at rest the first piece is due
-rest_due : (chain : Current) (v : View) (rs : List Image) (image behind : List ℕ) → IsAtRest chain v rs behind → IsDue chain v rs image (Piece 0)
+pub rest_due : (chain : Current) (v : View) (rs : List Image) (image behind : List ℕ) → IsAtRest chain v rs behind → IsDue chain v rs image (Piece 0)
 rest_due chain v rs image behind rest = record {
   keeps = rest.keeps;
   alone = rest.alone;
@@ -77,7 +77,7 @@ output_goes_on start chain after old mid new rs r image at result tells spells i
     let mid_tells = subst IsTrue (sym so_far.moments.tells) tells in
     stays_twice Output old mid new so_far.output (makes mid_tells rs r spells (stands_due chain mid rs r image at (length image) inside so_far.due)).output
 
-pub due_next : (chain after : Current) (mid new : View) (rs : List Image) (r : Image) (image : List ℕ) (at next : Step) → IsTrue mid.tells → Spells r image → IsInside at (length image) → Stands chain mid rs r image at → Makes chain after image at (Ok next) mid new → Stands after new rs r image next
+pub due_next : (chain after : Current) (mid new : View) (rs : List Image) (r : Image) (image : List ℕ) (at next : Step) → IsTrue mid.tells → Spells r image → IsInside at (length image) → IsDueNext chain mid rs r image at → Makes chain after image at (Ok next) mid new → IsDueNext after new rs r image next
 due_next chain after mid new rs r image at next tells spells inside due makes = (makes tells rs r spells (stands_due chain mid rs r image at (length image) inside due)).due
 
 pub inside_next : (at : Step) (n : ℕ) → IsInside at n → IsInsideOrDone (next_of at n) n
@@ -179,3 +179,19 @@ pub open_leaves : (chain : Current) (v : View) (rs : List Image) (r : Image) (im
 open_leaves chain v rs r image spells holds due c left =
     let torn = due.left c left in
     ⊎_elim (λ b. inl (lists_before chain v rs c due.keeps due.alone left b)) (λ b. inr (lists_after chain v rs r c holds due.alone left b)) (torn_list chain rs r image due.behind torn.0 (file_of chain.file c) spells torn.1)
+
+-- a sync gives what it gave before, also where it fails
+pub synced_reads : (chain : Current) (old new : View) (rs : List Image) (r : Image) (image : List ℕ) → IsDisk old → OnlySyncs old new → Spells r image → Holds (header_of chain) (rs ++ r ∷ []) → IsDue chain old rs image SyncGate → Lists chain (rs ++ r ∷ []) new.seen
+synced_reads chain old new rs r image disk only spells holds due = subst (λ (s : Store). Lists chain (rs ++ r ∷ []) s) (sym only.seen) (open_reads chain old rs r image disk spells holds due)
+
+pub piece_no_gate : (i : ℕ) → Piece i ≡ SyncGate → ⊥
+piece_no_gate i e = cc
+
+pub record_no_gate : SyncRecord ≡ SyncGate → ⊥
+record_no_gate e = cc
+
+pub open_no_gate : OpenGate ≡ SyncGate → ⊥
+open_no_gate e = cc
+
+pub done_no_gate : Done ≡ SyncGate → ⊥
+done_no_gate e = cc

@@ -1,7 +1,7 @@
 -- What an append leaves in the file, call by call.
 use Rattle.std.specs.Prelude.{◌≡◌, ◌≢◌, ℕ, ◌+◌, ◌-◌, ◌*◌, ◌<◌, ◌≤◌, nat_lt, true, if◌then◌else◌, List, [], ◌∷◌, ◌++◌, length, take, Option, Some, None, Ok}
 use Rattle.std.specs.List.{AllByRecursion}
-use Rattle.std.specs.Int.{w16, w32, to_be_bytes}
+use Rattle.std.specs.Int.{w16, w32, div_ceil, to_be_bytes}
 use Rattle.disk_model.specs.declared.disk_file.DiskFile.{DiskFile}
 use Rattle.disk_model.specs.declared.disk_file.DiskFile.TheVariants.{Output, One, Two}
 use Rattle.disk_model.specs.Store.{Store, file_of}
@@ -135,6 +135,20 @@ next_of OpenGate n = SyncGate
 next_of SyncGate n = Done
 next_of Done n = Done
 
+-- how many pieces a record of n bytes is written in
+abbrev pub pieces_of : ℕ → ℕ
+pieces_of n = div_ceil n 4096
+
+-- how many disk calls its append takes: the pieces, and the last three steps
+abbrev pub writer_calls : ℕ → ℕ
+writer_calls n = pieces_of n + 3
+
+-- the step that is due where so many of them are done
+abbrev pub step_after : ℕ → ℕ → Step
+step_after done n =
+    if nat_lt done (pieces_of n) then Piece done
+    else (if nat_lt done (pieces_of n + 1) then SyncRecord else (if nat_lt done (pieces_of n + 2) then OpenGate else SyncGate))
+
 -- the step that is due after a call that answered this one
 abbrev pub due_after : Step → Step
 due_after (Piece i) = Piece i
@@ -152,12 +166,12 @@ IsInside SyncGate n = Unit {0}
 IsInside Done n = ⊥
 
 -- after a call: the answered step is due, or no record is under way any more
-abbrev pub Stands : Current → View → List Image → Image → List ℕ → Step → Type 0
-Stands chain v rs r image (Piece i) = IsDue chain v rs image (Piece i)
-Stands chain v rs r image SyncRecord = IsDue chain v rs image SyncRecord
-Stands chain v rs r image OpenGate = IsDue chain v rs image OpenGate
-Stands chain v rs r image SyncGate = IsDue chain v rs image SyncGate
-Stands chain v rs r image Done = (behind : List ℕ) × IsAtRest chain v (rs ++ r ∷ []) behind
+abbrev pub IsDueNext : Current → View → List Image → Image → List ℕ → Step → Type 0
+IsDueNext chain v rs r image (Piece i) = IsDue chain v rs image (Piece i)
+IsDueNext chain v rs r image SyncRecord = IsDue chain v rs image SyncRecord
+IsDueNext chain v rs r image OpenGate = IsDue chain v rs image OpenGate
+IsDueNext chain v rs r image SyncGate = IsDue chain v rs image SyncGate
+IsDueNext chain v rs r image Done = (behind : List ℕ) × IsAtRest chain v (rs ++ r ∷ []) behind
 
 -- what the call that makes a step keeps of the current file: all, but that the last one takes the record over
 abbrev pub SameCurrent : Step → Current → Current → Type 0

@@ -1,5 +1,7 @@
 -- the chain of a store: its files, their records, and every kind of damage
 pub mod Records
+-- the records of a store, and those of one image file with its header
+pub mod Files
 -- what records give each cell
 pub mod Memory
 -- what a chain keeps of its file, whatever its disk tells
@@ -10,6 +12,8 @@ pub mod Append
 pub mod Lists
 -- what a joining leaves in the other image file, call by call, and of the chain
 pub mod Replace
+-- a store that is cleared
+pub mod Clear
 -- what a call answers of a store, and what it leaves of the disk
 pub mod Looking
 -- how far the records of a file were read

@@ -2,7 +2,7 @@
 use Rattle.std.specs.Prelude.{◌≡◌, ◌⊎◌, ℕ, ◌+◌, IsTrue, List, [], ◌∷◌, ◌++◌, length, Option, Some, None, Result, Ok, IfOk}
 use Rattle.ckpt_base.specs.declared.errors.Failed.{Failed}
 use Rattle.disk_model.specs.declared.disk_file.DiskFile.{DiskFile}
-use Rattle.disk_model.specs.declared.disk_file.DiskFile.TheVariants.{Output}
+use Rattle.disk_model.specs.declared.disk_file.DiskFile.TheVariants.{Output, One, Two}
 use Rattle.disk_model.specs.Store.{Store, file_of}
 use Rattle.disk_model.specs.View.{View, SameFile}
 use Rattle.disk_model.specs.Moments.{Among, LeavesOnly}
@@ -13,7 +13,7 @@ use Rattle.image_chain.specs.declared.chain.Chain.{Chain}
 use Rattle.image_chain.specs.declared.chain.Step.{Step}
 use Rattle.image_chain.specs.declared.chain.Step.TheVariants.{Piece, SyncRecord, OpenGate, SyncGate, Done}
 use Rattle.image_chain.specs.Records.{Found, chain_in}
-use Rattle.image_chain.specs.Append.{header_of, other, IsAtRest, IsDue, Stands, Spells}
+use Rattle.image_chain.specs.Append.{header_of, other, IsAtRest, IsDue, IsDueNext, Spells}
 
 -- what is found where these records stand in this file behind this header: no chain where there is none
 abbrev pub found_of : DiskFile → Header → List Image → Option Found
@@ -55,8 +55,10 @@ ReadsAfter Done chain rs r = Lists chain rs
 
 -- What the call that makes a step promises, behind these records.
 pub record Promise (before after : Current) (r : Image) (image : List ℕ) (at : Step) (result : Result Step Failed) (old new : View) (rs : List Image) : Type 0 where
-  pub due : IfOk result (Stands after new rs r image)
+  pub due : IfOk result (IsDueNext after new rs r image)
   pub reads : IfOk result (λ _. ReadsAfter at before rs r new.seen)
+  -- also where the last sync fails
+  pub opened : at ≡ SyncGate → Lists before (rs ++ r ∷ []) new.seen
   pub moments : LeavesOnly old new (Among old.may_leave (IsLeftIn at before rs r))
   pub output : SameFile Output old new
 
@@ -68,9 +70,13 @@ Makes before after image at result old new = IsTrue old.tells → (rs : List Ima
 abbrev pub Rests : Chain → View → List Image → Type 0
 Rests chain v rs = (chain.due ≡ Piece 0) × ((behind : List ℕ) × IsAtRest chain.current v rs behind)
 
+-- both image files are as they were
+abbrev pub ImagesStay : View → View → Type 0
+ImagesStay old new = SameFile One old new × SameFile Two old new
+
 -- an append that began at rest has come to this step
 pub record SoFar (start now : Current) (r : Image) (image : List ℕ) (at : Step) (old new : View) (rs : List Image) : Type 0 where
-  pub due : Stands now new rs r image at
+  pub due : IsDueNext now new rs r image at
   pub moments : LeavesOnly old new (Among old.may_leave (IsAppended start rs r))
   pub output : SameFile Output old new
 

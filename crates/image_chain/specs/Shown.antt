@@ -1,6 +1,7 @@
 -- The record that stands at a known place.
 use Rattle.std.specs.Prelude.{◌≡◌, ◌≢◌, ℕ, ◌+◌, ◌-◌, ◌^◌, ◌≤◌, min, get_or, List, ◌∷◌, ◌++◌, length, take, drop, IsTrue, Result, Ok, Err}
 use Rattle.disk_model.specs.declared.disk_file.DiskFile.{DiskFile}
+use Rattle.disk_model.specs.Store.{file_of}
 use Rattle.disk_model.specs.View.{View}
 use Rattle.image_format.specs.Image.{Image}
 use Rattle.image_format.specs.Spelling.{image_length}
@@ -28,10 +29,19 @@ abbrev pub IsBadAt : ℕ → Span → Result Image ℕ → Type 0
 IsBadAt place span (Ok r) = (image_length r ≢ span.length) × (place ≡ place_in span 1)
 IsBadAt place span (Err p) = place ≡ place_in span p
 
--- the damage of the file at a span, by the bytes that were read into the room
-abbrev pub IsNoRecord : ChainFault → DiskFile → Span → List ℕ → Type 0
-IsNoRecord Failed file span room = Unit {0}
-IsNoRecord (Damaged f place) file span room = (f ≡ file) × ((n : ℕ) × (n ≤ span.length) × IsBadAt place span (image_at (take n room)))
+-- the damage of a file at a span where this was read, unless a call on the disk failed
+abbrev pub IsNoRecord : ChainFault → DiskFile → Span → Result Image ℕ → Type 0
+IsNoRecord Failed file span read = Unit {0}
+IsNoRecord (Damaged f place) file span read = (f ≡ file) × IsBadAt place span read
+
+-- the bytes of a file at a span; no record has more than 3,145,837
+abbrev pub bytes_at : Span → List ℕ → List ℕ
+bytes_at span bytes = take (min span.length 3145837) (drop span.at bytes)
+
+-- what was judged are the bytes of the file at the span: they are in the room, or they are no record of that length
+abbrev pub IsJudged : Result ℕ ChainFault → DiskFile → Span → List ℕ → List ℕ → Type 0
+IsJudged (Ok n) file span bytes room = take n room ≡ bytes_at span bytes
+IsJudged (Err e) file span bytes room = IsNoRecord e file span (image_at (bytes_at span bytes))
 
 -- the record stands in the file at a span
 pub record StandsAt (span : Span) (r : Image) (file : List ℕ) : Type 0 where
@@ -48,3 +58,7 @@ IsShown (Err (Damaged f place)) r room = ⊥
 -- where a chain at rest has a record behind i others, that record is shown
 abbrev pub ShowsRecord : Chain → View → ℕ → Result ℕ ChainFault → List ℕ → Type 0
 ShowsRecord chain v i result room = IsTrue v.tells → (before : List Image) (r : Image) (after : List Image) → length before ≡ i → Rests chain v (before ++ r ∷ after) → IsShown result r room
+
+-- where the disk tells, what was judged are the bytes of the current file at the span of record i
+abbrev pub JudgesRecord : Chain → View → ℕ → Result ℕ ChainFault → List ℕ → Type 0
+JudgesRecord chain v i result room = IsTrue v.tells → IsJudged result chain.current.file (span_at chain i) (file_of chain.current.file v.seen) room

@@ -5,7 +5,7 @@ ghost use Rattle.disk_model.specs.View.{SameFile, Steady};
 ghost use Rattle.disk_model.specs.Moments.{Among, LeavesOnly};
 ghost use Rattle.image_format.specs.Image.{Image};
 ghost use Rattle.image_chain.specs.Records.{broken_field};
-ghost use Rattle.image_chain.specs.Append.{header_of, IsDue, IsInside, SameCurrent, Spells, TakesOver, TakesSpan, IfLast, IsSoundFile, next_of, due_after as step_after};
+ghost use Rattle.image_chain.specs.Append.{header_of, IsDue, IsInside, SameCurrent, Spells, TakesOver, TakesSpan, IfLast, IsSoundFile, next_of, due_after as due_of};
 ghost use Rattle.image_chain.specs.Lists.{Makes, IsAppended, Rests};
 
 use crate::chain::{Chain, Current, Span, Step};
@@ -41,7 +41,7 @@ impl Chain {
         requires inside { IsInside at (length image.now) }
         requires stands { IsTrue (D.view disk.old).tells → (rs : List Image) × IsDue self.old.current (D.view disk.old) rs image.now at }
         ensures order { IfOk result (λ next. next ≡ next_of at (length image.now)) }
-        ensures due { IfOk result (λ next. self.new.due ≡ step_after next) }
+        ensures due { IfOk result (λ next. self.new.due ≡ due_of next) }
         ensures same { SameCurrent at self.old.current self.new.current }
         ensures took { OnOk result (IfLast at (TakesOver self.old.current self.new.current image.now)) }
         ensures makes { Makes self.old.current self.new.current image.now at result (D.view disk.old) (D.view disk.new) }
@@ -85,7 +85,7 @@ impl Chain {
 }
 
 fn due_after(next: Step) -> Step
-    ensures { result ≡ step_after next }
+    ensures { result ≡ due_of next }
 {
     match next {
         Step::Done => Step::Piece(0),

@@ -8,8 +8,10 @@
 
 mod append;
 mod chain;
+mod clear;
 mod fault;
 mod kept;
+mod laws;
 mod look;
 mod open;
 mod record;
@@ -22,4 +24,5 @@ mod tests;
 pub use chain::{Chain, Step};
 pub use fault::ChainFault;
 pub use kept::Kept;
+pub use laws::{found_chains_are_there, steps_follow};
 pub use room::ChainRoom;

@@ -1,13 +1,16 @@
 //! What a chain tells, and its records.
-ghost use Rattle.std.specs.Prelude.{◌≡◌, ◌⊎◌, ◌<◌, ◌≤◌, ◌+◌, List, ◌∷◌, [], ◌++◌, length, take, IsTrue, IfOk, IfErr, IsSome, Option, None, Ok, OnOk};
+ghost use Rattle.std.specs.Prelude.{◌≡◌, ◌⊎◌, ◌<◌, ◌≤◌, ◌+◌, ℕ, List, ◌∷◌, [], ◌++◌, length, take, IsTrue, IfOk, IfErr, IsSome, Option, None, Ok, OnOk};
 ghost use Rattle.disk_model.specs.Store.{Store, file_of};
+ghost use Rattle.disk_model.specs.View.{Steady};
+ghost use Rattle.disk_model.specs.Moments.{LeavesOnly};
 ghost use Rattle.image_format.specs.Image.{Image};
+ghost use Rattle.image_format.specs.Reading.{image_at};
 ghost use Rattle.image_chain.specs.Records.{newest_of, broken_field};
 ghost use Rattle.image_chain.specs.Sound.{HasNewest};
 ghost use Rattle.image_chain.specs.Append.{chained_length, IsDue, Spells};
 ghost use Rattle.image_chain.specs.Lists.{Lists, Rests};
 ghost use Rattle.image_chain.specs.Looking.{OnlyLooked, RoseIfFailed};
-ghost use Rattle.image_chain.specs.Shown.{IsRecordOf, IsNoRecord, IsShown, StandsAt, ShowsRecord, place_in, span_at};
+ghost use Rattle.image_chain.specs.Shown.{IsJudged, IsRecordOf, IsNoRecord, IsShown, JudgesRecord, ShowsRecord, StandsAt, place_in, span_at};
 
 use crate::chain::{Chain, Span, Step};
 use crate::fault::ChainFault;
@@ -74,7 +77,8 @@ impl Chain {
 
     /// Reads record `i`, counted from 0, into the room and answers its length. No record is under way.
     ///
-    /// `Damaged` comes exactly where the bytes that are read are no record of the length that record `i` has.
+    /// `Damaged` comes exactly where the bytes that are read are no record of the length that record `i` has, with the place of the first
+    /// bad field, or of the length where only that differs.
     pub fn record_at<D: Disk>(
         &self,
         disk: &mut D,
@@ -86,11 +90,14 @@ impl Chain {
         ensures length { IfOk result (λ n. n ≡ (span_at self.now i).length) }
         ensures most { IfOk result (λ n. n ≤ 3145837) }
         ensures answer { IfOk result (λ n. IsRecordOf n (take n room.new)) }
-        ensures damaged { IfErr result (λ e. IsNoRecord e self.now.current.file (span_at self.now i) room.new) }
+        ensures damaged { IfErr result (λ e. (n : ℕ) × (n ≤ (span_at self.now i).length) × IsNoRecord e self.now.current.file (span_at self.now i) (image_at (take n room.new))) }
+        ensures exact { JudgesRecord self.now (D.view disk.old) i result room.new }
         ensures told { ShowsRecord self.now (D.view disk.old) i result room.new }
         ensures looked { OnlyLooked (D.view disk.old) (D.view disk.new) }
+        ensures any_moment { IsTrue (D.view disk.old).tells → LeavesOnly (D.view disk.old) (D.view disk.new) (D.view disk.old).may_leave }
         ensures failed { IfErr result (λ e. RoseIfFailed e (D.view disk.old).faults (D.view disk.new).faults) }
         ensures counts { OnOk result ((D.view disk.new).faults ≡ (D.view disk.old).faults) }
+        ensures steady { Steady (D.view disk.old) (D.view disk.new) }
     {
         let span = self.span_of(i);
         read_span(disk, self.current.file, span, room)
@@ -104,13 +111,14 @@ impl Chain {
         self.current.spans[i as usize]
     }
 
-    /// What a chain at rest tells of its records, and what reads and crashes give of it.
+    /// What a chain at rest tells of its records, and what reads and crashes give of it. The first piece of any record is due.
     pub fn tells<D: Disk>(&self, disk: &D)
         ensures count { IsTrue (D.view disk.now).tells → (rs : List Image) → Rests self.now (D.view disk.now) rs → self.now.current.count ≡ length rs }
         ensures newest { IsTrue (D.view disk.now).tells → (rs : List Image) → Rests self.now (D.view disk.now) rs → self.now.current.newest ≡ newest_of None rs }
         ensures newest_place { IsTrue (D.view disk.now).tells → (rs : List Image) → Rests self.now (D.view disk.now) rs → (before : List Image) (r : Image) → rs ≡ before ++ r ∷ [] → self.now.current.newest_at ≡ 16 + chained_length before }
         ensures reads { IsTrue (D.view disk.now).tells → (rs : List Image) → Rests self.now (D.view disk.now) rs → Lists self.now.current rs (D.view disk.now).seen }
         ensures lasting { IsTrue (D.view disk.now).tells → (rs : List Image) → Rests self.now (D.view disk.now) rs → (c : Store) → (D.view disk.now).may_leave c → Lists self.now.current rs c }
+        ensures begins { (rs : List Image) (image : List ℕ) → Rests self.now (D.view disk.now) rs → IsDue self.now.current (D.view disk.now) rs image (Step.Piece 0) }
     {}
 
     /// What reads and crashes give of the records while a step of an append of this record is due.
@@ -135,7 +143,8 @@ fn read_span<D: Disk>(
     ensures length { IfOk result (λ n. n ≡ span.length) }
     ensures most { IfOk result (λ n. n ≤ 3145837) }
     ensures answer { IfOk result (λ n. IsRecordOf n (take n room.new)) }
-    ensures damaged { IfErr result (λ e. IsNoRecord e file span room.new) }
+    ensures damaged { IfErr result (λ e. (n : ℕ) × (n ≤ span.length) × IsNoRecord e file span (image_at (take n room.new))) }
+    ensures exact { IsTrue (D.view disk.old).tells → IsJudged result file span (file_of file (D.view disk.old).seen) room.new }
     ensures told { IsTrue (D.view disk.old).tells → (r : Image) → StandsAt span r (file_of file (D.view disk.old).seen) → IsShown result r room.new }
     ensures looked { OnlyLooked (D.view disk.old) (D.view disk.new) }
     ensures failed { IfErr result (λ e. RoseIfFailed e (D.view disk.old).faults (D.view disk.new).faults) }

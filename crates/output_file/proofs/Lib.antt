@@ -4,3 +4,5 @@ mod MomentLaws
 mod FileLaws
 -- the files of images, which the calls leave as they were
 mod ImageLaws
+-- an output beside calls on the image files
+pub mod BesideLaws

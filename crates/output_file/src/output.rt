@@ -132,6 +132,13 @@ impl Output {
         Ok(())
     }
 
+    /// Where these are the bytes of the output on a disk, they are so beside calls that leave the output file as it was since an earlier
+    /// state `before` of the disk; and where the disk held exactly these bytes, it does so still.
+    pub fn stays_beside<D: Disk>(&self, disk: &D)
+        ensures fits { (before : D) (bytes : List ℕ) → SameFile DiskFile.Output (D.view before) (D.view disk.now) → IsOutputOn self.now (D.view before) bytes → IsOutputOn self.now (D.view disk.now) bytes }
+        ensures durable { (before : D) (bytes : List ℕ) → SameFile DiskFile.Output (D.view before) (D.view disk.now) → IsOnDisk bytes (D.view before) → IsOnDisk bytes (D.view disk.now) }
+    {}
+
     // Writes the waiting bytes, if any, in one piece.
     fn write_waiting<D: Disk>(&mut self, disk: &mut D) -> Result<(), Failed>
         requires fits { IsTrue (D.view disk.old).tells → (bytes : List ℕ) × IsOutputOn self.old (D.view disk.old) bytes }

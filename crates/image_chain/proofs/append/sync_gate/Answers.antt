@@ -1,6 +1,7 @@
 use Rattle.std.proofs.Common.{rules, subst, sym, IsTrue}
 use Rattle.image_chain.proofs.StepLaws.{due_holds, sync_gate_moments, sync_gate_rest, sync_gate_keeps, sync_gate_reads}
 use Rattle.image_chain.proofs.SoundLaws.{sound_push}
+use Rattle.image_chain.proofs.LoopLaws.{synced_reads}
 use Rattle.image_chain.proofs.OutputLaws.{step_output}
 use Rattle.image_chain.proofs.append.sync_gate.Goals as goal
 
@@ -10,6 +11,7 @@ returns-in_err-sync-clause-makes g c = λ tells rs r spells due.
     record {
       due = search rules;
       reads = search rules;
+      opened = λ e. synced_reads c.args.chain.now _ _ rs r c.args.image.now (g.met.D.Disk.lawful c.args.disk.now tells) (c.sync.ensures.only tells) spells holds due;
       moments = sync_gate_moments c.args.chain.now _ _ rs r c.args.image.now c.sync.result tells (g.met.D.Disk.lawful c.args.disk.now tells) c.sync.ensures.answer due spells holds;
       output = step_output c.args.chain.now _ _ rs _ c.sync.result tells due.alone c.sync.ensures.answer;
     }
@@ -24,6 +26,7 @@ returns-clause-makes g c = λ tells rs r spells due.
     record {
       due = (due.behind, rest);
       reads = sync_gate_reads c.args.chain.now _ _ rs r c.args.image.now c.sync.result tells c.sync.ensures.answer made due spells holds (g.met.D.Disk.lawful c.sync.new.self (subst IsTrue (sym c.sync.ensures.answer.tells) tells));
+      opened = λ e. synced_reads c.args.chain.now _ _ rs r c.args.image.now (g.met.D.Disk.lawful c.args.disk.now tells) (c.sync.ensures.only tells) spells holds due;
       moments = sync_gate_moments c.args.chain.now _ _ rs r c.args.image.now c.sync.result tells (g.met.D.Disk.lawful c.args.disk.now tells) c.sync.ensures.answer due spells holds;
       output = step_output c.args.chain.now _ _ rs _ c.sync.result tells due.alone c.sync.ensures.answer;
     }

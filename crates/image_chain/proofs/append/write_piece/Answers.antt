@@ -1,5 +1,6 @@
 use Rattle.std.proofs.Common.{rules, arith, subst, sym, refl, IsTrue, ◌≡◌, ◌*◌, ◌+◌}
 use Rattle.image_chain.proofs.StepLaws.{piece_inside, piece_moments, piece_due, last_piece_due, reads_list, spells_short}
+use Rattle.image_chain.proofs.LoopLaws.{piece_no_gate}
 use Rattle.image_chain.proofs.OutputLaws.{step_output}
 use Rattle.image_chain.proofs.append.write_piece.Goals as goal
 
@@ -13,6 +14,7 @@ pub returns-in_err-write_at-clause-makes : goal.returns-in_err-write_at-clause-m
 returns-in_err-write_at-clause-makes g c = λ tells rs r spells due. record {
   due = search rules;
   reads = search rules;
+  opened = λ e. absurd (piece_no_gate c.args.i e);
   moments = piece_moments c.args.chain.now _ _ rs c.args.image.now c.args.i _ _ c.write_at.result tells (g.met.D.Disk.lawful c.args.disk.now tells) c.write_at.ensures.answer due (omega arith);
   output = step_output c.args.chain.now _ _ rs _ c.write_at.result tells due.alone c.write_at.ensures.answer;
 }
@@ -24,6 +26,7 @@ returns-then-to-image-clause-makes g c = λ tells rs r spells due.
     record {
       due = then;
       reads = reads_list c.args.chain.now _ rs then.gate _ then.keeps then.alone (g.met.D.Disk.lawful c.write_at.new.self (subst IsTrue (sym c.write_at.ensures.answer.tells) tells)) then.closed then.reads;
+      opened = λ e. absurd (piece_no_gate c.args.i e);
       moments = piece_moments c.args.chain.now _ _ rs c.args.image.now c.args.i _ _ c.write_at.result tells (g.met.D.Disk.lawful c.args.disk.now tells) c.write_at.ensures.answer due (omega arith);
       output = step_output c.args.chain.now _ _ rs _ c.write_at.result tells due.alone c.write_at.ensures.answer;
     }
@@ -34,6 +37,7 @@ returns-clause-makes g c = λ tells rs r spells due.
     record {
       due = then;
       reads = reads_list c.args.chain.now _ rs then.gate _ then.keeps then.alone (g.met.D.Disk.lawful c.write_at.new.self (subst IsTrue (sym c.write_at.ensures.answer.tells) tells)) then.closed then.reads;
+      opened = λ e. absurd (piece_no_gate c.args.i e);
       moments = piece_moments c.args.chain.now _ _ rs c.args.image.now c.args.i _ _ c.write_at.result tells (g.met.D.Disk.lawful c.args.disk.now tells) c.write_at.ensures.answer due (omega arith);
       output = step_output c.args.chain.now _ _ rs _ c.write_at.result tells due.alone c.write_at.ensures.answer;
     }

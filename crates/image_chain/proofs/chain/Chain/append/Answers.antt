@@ -4,7 +4,7 @@ use Rattle.disk_model.proofs.Calls.{steady_twice}
 use Rattle.image_chain.specs.declared.chain.Step.{Step}
 use Rattle.image_chain.specs.declared.chain.Current.{Current}
 use Rattle.image_chain.specs.Records.{broken_field}
-use Rattle.image_chain.specs.Append.{IsInsideOrDone, Stands, due_after}
+use Rattle.image_chain.specs.Append.{IsInsideOrDone, IsDueNext, due_after}
 use Rattle.image_chain.proofs.LoopLaws.{begun, goes_on, output_goes_on, due_next, inside_next, inside_due, smaller, stands_due, due_is, same_next, took_next, not_last}
 use Rattle.image_chain.proofs.StepLaws.{spells_length}
 use Rattle.image_chain.proofs.chain.Chain.append.Goals as goal
@@ -25,7 +25,7 @@ returns-in-Done-clause-took g c = (c.loop-at.invariant.due ∙ ap due_after c.in
 
 pub returns-in-Done-clause-answer : goal.returns-in-Done-clause-answer
 returns-in-Done-clause-answer g c = λ tells rs r spells rests.
-    (c.loop-at.invariant.due ∙ ap due_after c.in-Done.is, subst (λ (at : Step). Stands c.loop-at.self.current (g.D.Disk.view c.loop-at.disk) rs r c.args.image.now at) c.in-Done.is (c.loop-at.invariant.so_far tells rs r rests.1.0 spells rests.1.1).due)
+    (c.loop-at.invariant.due ∙ ap due_after c.in-Done.is, subst (λ (at : Step). IsDueNext c.loop-at.self.current (g.D.Disk.view c.loop-at.disk) rs r c.args.image.now at) c.in-Done.is (c.loop-at.invariant.so_far tells rs r rests.1.0 spells rests.1.1).due)
 
 pub returns-in-Done-clause-any_moment : goal.returns-in-Done-clause-any_moment
 returns-in-Done-clause-any_moment g c = λ tells rs r spells rests. (c.loop-at.invariant.so_far tells rs r rests.1.0 spells rests.1.1).moments

@@ -1,4 +1,4 @@
-use Rattle.image_chain.proofs.LoopLaws.{rest_lists}
+use Rattle.image_chain.proofs.LoopLaws.{rest_lists, rest_due}
 use Rattle.image_chain.proofs.chain.Chain.tells.Goals as goal
 
 pub returns-clause-count : goal.returns-clause-count
@@ -15,3 +15,6 @@ returns-clause-reads g c = λ told rs rests. rest_lists c.args.self.now.current 
 
 pub returns-clause-lasting : goal.returns-clause-lasting
 returns-clause-lasting g c = λ told rs rests. rest_lists c.args.self.now.current _ rs rests.1.0 rests.1.1
+
+pub returns-clause-begins : goal.returns-clause-begins
+returns-clause-begins g c = λ rs image rests. rest_due c.args.self.now.current _ rs image rests.1.0 rests.1.1
