@@ -1,0 +1,14 @@
+-- images of events, one part after another
+pub mod ImageLaws
+-- joined lists grow, and join
+pub mod JoinLaws
+-- stores that stand
+pub mod StandLaws
+-- what calls of the layers below leave standing
+pub mod StepLaws
+-- what the fold over events keeps
+pub mod FactLaws
+-- a taken image holds what the run needs
+pub mod HoldLaws
+-- an append leaves a store that stands
+pub mod AppendLaws
