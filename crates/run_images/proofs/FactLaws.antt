@@ -22,6 +22,8 @@ pub record Past (T : Taking) (es : List Event) (s : Since) : Type 0 where
   pub tick : ℕ
   pub behind : List Event
   pub split : es ≡ before ++ Checkpoint image.fields.node tick ∷ behind
+  pub due : is_due T.every (since_after T.every before at_first) tick ≡ true
+  pub taken : image ≡ taken_at T image.fields.node tick (since_after T.every before at_first)
   pub spared : (c : ℕ) → has_cell s.written c ≡ false → Contains (wrote behind) c → ⊥
 
 -- the newest directive, and the events behind it
@@ -79,6 +81,8 @@ past_more T es s s' e same less p = record {
   tick = p.tick;
   behind = p.behind ++ e ∷ [];
   split = ap (λ l. l ++ e ∷ []) p.split ∙ append_assoc p.before (Checkpoint p.image.fields.node p.tick ∷ p.behind) (e ∷ []);
+  due = p.due;
+  taken = p.taken;
   spared = λ c no h. let l = less c no in ⊎_elim (p.spared c l.0) l.1 (Contains-append_cases (wrote p.behind) (wrote (e ∷ [])) c (subst (λ x. Contains x c) (wrote_both p.behind (e ∷ [])) h));
 }
 
@@ -172,6 +176,8 @@ module _ (T : Taking) (es : List Event) (s : Since) (h : Facts T es s) where
               tick = t;
               behind = [];
               split = refl;
+              due = ap (λ (x : Since). is_due T.every x t) (sym h.is) ∙ e;
+              taken = ap (taken_at T n t) h.is;
               spared = λ c no. none_written c;
             };
             under = λ z. under_more es s now (Checkpoint n t) refl tt (λ inc c yes. absurd (let w : false ≡ true = yes in cc)) (h.under z);

@@ -1,5 +1,5 @@
 -- A taken image holds what the run needs.
-use Rattle.std.proofs.Common.{◌≡◌, refl, sym, ◌∙◌, ap, subst, ℕ, zero, suc, ◌-◌, ◌/◌, ◌<◌, ◌≤◌, ◌==◌, ◌||◌, ◌&&◌, not, nat_lt, Bool, true, false, ⊎_elim, List, [], ◌∷◌, ◌++◌, length, Option, Some, None, arith}
+use Rattle.std.proofs.Common.{◌≡◌, refl, sym, ◌∙◌, ap, subst, ℕ, zero, suc, ◌-◌, ◌/◌, ◌<◌, ◌≤◌, ◌==◌, ◌||◌, ◌&&◌, not, nat_lt, Bool, true, false, ⊎_elim, List, [], ◌∷◌, ◌++◌, length, append_assoc, Option, Some, None, arith}
 use Rattle.std.specs.Prelude.{is_some, slice_index, slice_index_or}
 use Rattle.std.specs.Option.{option_or}
 use Rattle.std.specs.List.{list_any}
@@ -18,7 +18,8 @@ use Rattle.run_images.specs.Images.{Taking, TakenImage, is_excluded, lists_at, t
 use Rattle.run_images.specs.JoinedList.{lists_cell, IsOf, IsJoinedList}
 use Rattle.run_images.specs.Source.{Source, IsSource, run_of, taking_of}
 use Rattle.run_images.specs.Hold.{HoldWords, HoldUnwritten, IsTakenAt}
-use Rattle.run_images.specs.Spared.{HasPassed, IsSpared}
+use Rattle.run_images.specs.Spared.{IsSpared}
+use Rattle.run_images.specs.Asked.{RunsAreSpared}
 use Rattle.run_images.proofs.ImageLaws.{same_last}
 use Rattle.run_images.proofs.JoinLaws.{joined_newest}
 use Rattle.run_images.proofs.FactLaws.{has_cell, Past, Facts, all_facts, or_both, or_one}
@@ -71,7 +72,7 @@ among [] k c e = absurd (let z : false ≡ true = e in cc)
 among (x ∷ xs) zero c e = omega arith
 among (x ∷ xs) (suc k) c e = let h = among xs k c e in omega (arith, h)
 
-module _ (s : Source) (is : IsSource s) (spared : IsSpared s) (every node t : ℕ) (es : List Event) (ends : (run_of s t).events ≡ es ++ Checkpoint node t ∷ []) where
+module _ (s : Source) (is : IsSource s) (every node t : ℕ) (es : List Event) (spared : (c : ℕ) → c < cell_count s.program → IsSpared s.graph (run_of s t).events c) (ends : (run_of s t).events ≡ es ++ Checkpoint node t ∷ []) where
   abbrev T : Taking
   T = taking_of s every
 
@@ -81,8 +82,8 @@ module _ (s : Source) (is : IsSource s) (spared : IsSpared s) (every node t : �
   facts : Facts T es S
   facts = all_facts T es
 
-  passed : (before : List Event) → es ≡ before → HasPassed s before node
-  passed before at = record { ticks = t; tick = t; more = []; events = ends ∙ ap (λ l. l ++ Checkpoint node t ∷ []) at }
+  split_at : (a b : List Event) (e : Event) → es ≡ a ++ e ∷ b → (run_of s t).events ≡ a ++ e ∷ (b ++ Checkpoint node t ∷ [])
+  split_at a b e at = ends ∙ ap (λ l. l ++ Checkpoint node t ∷ []) at ∙ append_assoc a (e ∷ b) (Checkpoint node t ∷ [])
 
   module _ (c : ℕ) (lt : c < cell_count s.program) (kept : IsForgettable s.graph c node → ⊥) where
     -- what the records before have to give
@@ -98,7 +99,7 @@ module _ (s : Source) (is : IsSource s) (spared : IsSpared s) (every node t : �
         let k = S.directive in
         let within : k ≤ exclude_count s.graph = (let h = among s.sets.dead (k - 1) c holds in let e = is.sets.dead_len in omega (arith, h, e)) in
         let dead : IsDead s.graph k c = ((is.sets.dead k (let z = zero_least k some in z) within).exact c lt_cells).0 holds in
-        kept (spared.dead k node c u.before u.behind (passed (u.before ++ Excluded k ∷ u.behind) u.split) u.none lt dead)
+        kept ((spared c lt).dead k node t u.before u.behind [] (split_at u.before u.behind (Excluded k) u.split) u.none dead)
       where
         zero_least : (k : ℕ) → (k ≡ 0 → ⊥) → 1 ≤ k
         zero_least zero h = absurd (h refl)
@@ -110,7 +111,7 @@ module _ (s : Source) (is : IsSource s) (spared : IsSpared s) (every node t : �
         let k = S.directive in
         let within : k ≤ exclude_count s.graph = (let h = among s.sets.read_only (k - 1) c holds in let e = is.sets.read_only_len in omega (arith, h, e)) in
         let only : IsReadOnly s.graph k c = ((is.sets.read_only k (zero_least k some) within).exact c lt_cells).0 holds in
-        let never = spared.read_only k node c u.before u.behind (passed (u.before ++ Excluded k ∷ u.behind) u.split) u.none lt only in
+        let never = (spared c lt).read_only k node t u.before u.behind [] (split_at u.before u.behind (Excluded k) u.split) u.none only in
         (facts.included included, by_written (has_cell S.written c) refl (λ e. never (u.within included c e)))
       where
         zero_least : (k : ℕ) → (k ≡ 0 → ⊥) → 1 ≤ k
@@ -154,7 +155,7 @@ module _ (s : Source) (is : IsSource s) (spared : IsSpared s) (every node t : �
           fresh = ap (λ (b : Bool). b || has_cell S.written c) (zero_not S.number h.0) ∙ h.1
 
           stays : IsForgettable s.graph c past.image.fields.node → ⊥
-          stays forgets = kept (spared.stays past.image.fields.node past.tick node c past.before past.behind (passed (past.before ++ Checkpoint past.image.fields.node past.tick ∷ past.behind) past.split) lt forgets (past.spared c h.1))
+          stays forgets = kept ((spared c lt).stays past.image.fields.node past.tick node t past.before past.behind [] (split_at past.before past.behind (Checkpoint past.image.fields.node past.tick) past.split) forgets (past.spared c h.1))
 
           none_image : (x : TakenImage) (xs : List TakenImage) → xs ++ x ∷ [] ≡ [] → ⊥
           none_image x [] e = cc
@@ -174,5 +175,6 @@ module _ (s : Source) (is : IsSource s) (spared : IsSpared s) (every node t : �
           by_listed true e = memory_more rs r c ∙ ap (λ o. option_or o (memory rs c)) (words c e)
           by_listed false e = memory_more rs r c ∙ ap (λ o. option_or o (memory rs c)) (none_of (word_in_runs r.runs c) e) ∙ old_word (not_listed (sym (of.lists c) ∙ e))
 
-pub taken_holds : (s : Source) (every node t : ℕ) (es : List Event) (rs : List Image) (r : Image) (m : List ℕ) → IsSource s → IsSpared s → IsTakenAt s every node t es rs r m → HoldWords s node (rs ++ r ∷ []) m
-taken_holds s every node t es rs r m is spared taken c lt kept = word_now s is spared every node t es taken.passes c lt kept rs m taken.joined taken.held r taken.image taken.words
+pub taken_holds : (s : Source) (every node t : ℕ) (es : List Event) (rs : List Image) (r : Image) (m : List ℕ) → RunsAreSpared → IsSource s → IsTakenAt s every node t es rs r m → HoldWords s node (rs ++ r ∷ []) m
+taken_holds s every node t es rs r m spared is taken c lt kept =
+    word_now s is every node t es (λ c lt. spared s.program s.graph s.input t c is.checked is.graph lt) taken.passes c lt kept rs m taken.joined taken.held r taken.image taken.words

@@ -12,3 +12,9 @@ pub mod FactLaws
 pub mod HoldLaws
 -- an append leaves a store that stands
 pub mod AppendLaws
+-- what the fold over events counts
+pub mod SinceLaws
+-- where runs of a code stop
+pub mod CodeRuns
+-- lives go like their source
+pub mod AlikeLaws

@@ -6,7 +6,7 @@ use Rattle.flow_graph.specs.Checkpoints.{checkpoints_of}
 use Rattle.flow_graph.specs.Run.{graphs_of}
 use Rattle.exclusion_equations.specs.Excluded.{Sets}
 use Rattle.machine_code.specs.CodeView.{CodeView}
-use Rattle.code_maker.specs.ProgramCode.{code_of}
+use Rattle.code_maker.specs.CodeMeaning.{MeansGraphs}
 use Rattle.run_images.specs.Source.{Source}
 
 pub record CompiledView : Type 0 where
@@ -22,9 +22,9 @@ pub record CompiledView : Type 0 where
 abbrev pub cells_in : CompiledView → ℕ
 cells_in c = length c.words
 
--- all of it is that of the source's program
+-- it is that of the source's program: the code means what the program's graphs mean, and the rest is the program's own
 pub record IsCompiled (s : Source) (c : CompiledView) : Type 0 where
-  pub code : c.code ≡ code_of s.program
+  pub code : MeansGraphs s.program c.code
   pub sets : c.sets ≡ s.sets
   pub words : c.words ≡ first_words s.program
   pub checkpoints : c.checkpoints ≡ checkpoints_of (graphs_of s.program).main.works

@@ -14,9 +14,11 @@ pub mod Stands
 pub mod Later
 -- what one call changes in a store, and what finding a chain says of it
 pub mod Changes
--- what the excluded sets promise of a run
+-- what excluded sets promise of the events of a run
 pub mod Spared
 -- what a life takes from a compiled program
 pub mod Compiled
 -- where the run of a life begins, and when it goes like its source
 pub mod Origin
+-- what is asked of the crates below
+pub mod Asked

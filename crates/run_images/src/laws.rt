@@ -15,10 +15,14 @@ ghost use Rattle.run_images.specs.JoinedList.{IsOf, IsJoinedList, JoinsRecords};
 ghost use Rattle.run_images.specs.Source.{Source, IsSource};
 ghost use Rattle.run_images.specs.Hold.{HoldWords, IsTakenAt};
 ghost use Rattle.run_images.specs.Stands.{Stands, StandsFor, StandsWithin, StandWith};
+ghost use Rattle.run_images.specs.Compiled.{CompiledView, IsCompiled};
+ghost use Rattle.run_images.specs.Origin.{Origin, begun_at, IsResumedAt, IsOfSource};
 ghost use Rattle.run_images.specs.Changes.{IsListedIn, IsJoinedIn, IsFoundIn, NoneAhead};
-ghost use Rattle.run_images.specs.Spared.{IsSpared};
+ghost use Rattle.run_images.specs.Asked.{RunsAreSpared, Asked};
 
 use disk_model::DiskFile;
+use flow_graph::graphs_mean_their_programs;
+use machine_code::{runs_give_one_answer, runs_pass_what_they_reach, runs_show_what_they_do};
 
 /// The images of a run are those of its first events, and then those of the others from there.
 pub fn images_go_on()
@@ -83,5 +87,26 @@ pub fn joined_records_stand()
 
 /// Right behind an image of the source's run the records, the new one among them, give each cell that is not forgettable there its word.
 pub fn taken_images_hold()
-    ensures law { (s : Source) (every node t : ℕ) (es : List Event) (rs : List Image) (r : Image) (m : List ℕ) → IsSource s → IsSpared s → IsTakenAt s every node t es rs r m → HoldWords s node (rs ++ r ∷ []) m }
+    ensures law { (s : Source) (every node t : ℕ) (es : List Event) (rs : List Image) (r : Image) (m : List ℕ) → RunsAreSpared → IsSource s → IsTakenAt s every node t es rs r m → HoldWords s node (rs ++ r ∷ []) m }
 {}
+
+/// A life that begins is of its source: its run goes like the source's from the start.
+pub fn begun_lives_are_of_their_source()
+    ensures law { (s : Source) (c : CompiledView) (every : ℕ) → Asked → IsSource s → IsCompiled s c → IsOfSource s (begun_at c s.marks every s.input) }
+{
+    runs_give_one_answer();
+    runs_show_what_they_do();
+    runs_pass_what_they_reach();
+    graphs_mean_their_programs();
+}
+
+/// A life that is resumed from records that stand is of their source: its run goes like the source's from behind the checkpoint of the newest record, whatever the fill.
+pub fn resumed_lives_are_of_their_source()
+    ensures law { (s : Source) (c : CompiledView) (every fill : ℕ) (rs : List Image) (file : List ℕ) (o : Origin) → Asked → IsSource s → IsCompiled s c → StandsFor s every rs file
+        → IsResumedAt c s.marks every fill s.input rs file o → IsOfSource s o }
+{
+    runs_give_one_answer();
+    runs_show_what_they_do();
+    runs_pass_what_they_reach();
+    graphs_mean_their_programs();
+}

@@ -14,7 +14,8 @@
 mod laws;
 
 pub use laws::{
-    appends_keep_standing, empty_stores_stand, found_chains_are_there, images_go_on,
-    joined_lists_grow, joined_lists_join, joined_records_stand, kept_chains_stand,
-    listed_records_stand, newest_images_give_the_rest, outputs_grow_behind, taken_images_hold,
+    appends_keep_standing, begun_lives_are_of_their_source, empty_stores_stand,
+    found_chains_are_there, images_go_on, joined_lists_grow, joined_lists_join,
+    joined_records_stand, kept_chains_stand, listed_records_stand, newest_images_give_the_rest,
+    outputs_grow_behind, resumed_lives_are_of_their_source, taken_images_hold,
 };
