@@ -83,7 +83,7 @@ module _ (laws : RunLaws) (s : Source) (is : IsSource s) (code : CodeView) (mean
   outside_first = record { objects = refl; locals = refl }
 
   -- the run of the code from its start is the source's
-  source_run : (n : ℕ) → CodeRun code (world_at 0 first) n (run_of s n)
+  pub source_run : (n : ℕ) → CodeRun code (world_at 0 first) n (run_of s n)
   source_run n = subst (CodeRun code (world_at 0 first) n) (sym (laws.means p s.input n)) (means.from_entry first n outside_first)
 
   nothing : (run_of s 0).events ≡ []

@@ -1,5 +1,5 @@
 -- An append leaves a store that stands.
-use Rattle.std.proofs.Common.{◌≡◌, ◌≢◌, refl, sym, ◌∙◌, ap, ℕ, ◌<◌, ◌≤◌, not, nat_le, Bool, true, false, inl, inr, ◌⊎◌, List, [], ◌∷◌, ◌++◌, take, Option, Some, None, Ok, arith}
+use Rattle.std.proofs.Common.{◌≡◌, ◌≢◌, refl, sym, ◌∙◌, ap, ℕ, ◌+◌, ◌<◌, ◌≤◌, ◌==◌, not, nat_le, nat_lt, Bool, true, false, cond, inl, inr, ◌⊎◌, List, [], ◌∷◌, ◌++◌, take, Option, Some, None, Ok, arith}
 use Rattle.std.specs.Str.{bytes_eq}
 use Rattle.std.proofs.lemmas.Bool.Decides.{nat_tests}
 use Rattle.disk_model.specs.declared.disk_file.DiskFile.{DiskFile}
@@ -25,27 +25,43 @@ some_none n e = cc
 some_is : (x y : Fields) → Some x ≡ Some y → x ≡ y
 some_is x y e = cc
 
--- the steps of a record that follows rise
-steps_rise : (old new : Fields) → broken_field (Some old) new ≡ None → old.steps < new.steps
-steps_rise old new e = by_source (not (bytes_eq new.marks.source old.marks.source)) refl
-  where
-    by_steps : (b : Bool) → nat_le new.steps old.steps ≡ b → not (bytes_eq new.marks.source old.marks.source) ≡ false → not (bytes_eq new.marks.input old.marks.input) ≡ false → old.steps < new.steps
-    by_steps true x p q = absurd (some_none 73 (sym (rw (p, q, x) refl) ∙ e))
-    by_steps false x p q = grind (arith, nat_tests, x)
+-- a test that tells no place has failed
+none_told : (b : Bool) (place : ℕ) (rest : Option ℕ) → cond b (Some place) rest ≡ None → (b ≡ false) × (rest ≡ None)
+none_told true place rest e = absurd (some_none place e)
+none_told false place rest e = (refl, e)
 
-    by_input : (b : Bool) → not (bytes_eq new.marks.input old.marks.input) ≡ b → not (bytes_eq new.marks.source old.marks.source) ≡ false → old.steps < new.steps
-    by_input true q p = absurd (some_none 37 (sym (rw (p, q) refl) ∙ e))
-    by_input false q p = by_steps (nat_le new.steps old.steps) refl p q
+-- the steps of a record that follows rise, and so does its number
+module _ (old new : Fields) where
+  abbrev in_number : Option ℕ
+  in_number = cond (not (new.number == old.number + 1)) (Some 100) None
 
-    by_source : (b : Bool) → not (bytes_eq new.marks.source old.marks.source) ≡ b → old.steps < new.steps
-    by_source true p = absurd (some_none 5 (sym (rw p refl) ∙ e))
-    by_source false p = by_input (not (bytes_eq new.marks.input old.marks.input)) refl p
+  abbrev in_output : Option ℕ
+  in_output = cond (nat_lt new.output_length old.output_length) (Some 89) in_number
 
-newest_more : (o : Option Fields) (rs : List Image) (r : Image) → newest_of o (rs ++ r ∷ []) ≡ Some r.fields
+  abbrev in_place : Option ℕ
+  in_place = cond (nat_lt new.input_place old.input_place) (Some 81) in_output
+
+  abbrev in_steps : Option ℕ
+  in_steps = cond (nat_le new.steps old.steps) (Some 73) in_place
+
+  abbrev in_input : Option ℕ
+  in_input = cond (not (bytes_eq new.marks.input old.marks.input)) (Some 37) in_steps
+
+  pub rises : broken_field (Some old) new ≡ None → (old.steps < new.steps) × (old.number ≤ new.number)
+  rises e =
+      let input = none_told (not (bytes_eq new.marks.source old.marks.source)) 5 in_input e in
+      let steps = none_told (not (bytes_eq new.marks.input old.marks.input)) 37 in_steps input.1 in
+      let place = none_told (nat_le new.steps old.steps) 73 in_place steps.1 in
+      let written = none_told (nat_lt new.input_place old.input_place) 81 in_output place.1 in
+      let number = none_told (nat_lt new.output_length old.output_length) 89 in_number written.1 in
+      let last = none_told (not (new.number == old.number + 1)) 100 None number.1 in
+      (grind (arith, nat_tests, place.0), grind (arith, nat_tests, last.0))
+
+pub newest_more : (o : Option Fields) (rs : List Image) (r : Image) → newest_of o (rs ++ r ∷ []) ≡ Some r.fields
 newest_more o [] r = refl
 newest_more o (q ∷ rs) r = newest_more (Some q.fields) rs r
 
-newest_some : (f : Fields) (rs : List Image) → (x : Fields) × (newest_of (Some f) rs ≡ Some x)
+pub newest_some : (f : Fields) (rs : List Image) → (x : Fields) × (newest_of (Some f) rs ≡ Some x)
 newest_some f [] = (f, refl)
 newest_some f (r ∷ rs) = newest_some r.fields rs
 
@@ -61,7 +77,7 @@ none_ahead_more s n f h (a ∷ rs) r d image_file within is follows k ps x y u p
     let z = newest_some a.fields rs in
     let x_is : r.fields ≡ x = some_is r.fields x (sym (newest_more None (a ∷ rs) r) ∙ q) in
     let before : y.steps ≤ z.0.steps = none_ahead s n f h (a ∷ rs) d within is k ps z.0 y u p z.1 in
-    let rise = steps_rise z.0 r.fields (sym (ap (λ (o : Option Fields). broken_field o r.fields) z.1) ∙ follows) in
+    let rise = (rises z.0 r.fields (sym (ap (λ (o : Option Fields). broken_field o r.fields) z.1) ∙ follows)).0 in
     omega (arith, before, rise, ap (λ (g : Fields). g.steps) x_is)
 
 pub append_stands : (s : Source) (n : ℕ) (bytes : List ℕ) (f : DiskFile) (h : Header) (rs : List Image) (r : Image) (d c : Store) → f ≢ Output → StandsWithin s n d → take n d.output ≡ take n bytes → chain_in d ≡ Ok (found_of f h rs)

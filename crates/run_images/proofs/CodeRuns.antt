@@ -32,12 +32,12 @@ pub record RunLaws : Type 0 where
 -- ---- where a run stops
 
 -- a run gives what stands in the world at which it stops
-record GivesWorld (v : World) (bound : ℕ) (r : Run) : Type 0 where
-  ticks : v.state.ticks ≤ bound
-  ending : Ending
-  is : r ≡ run_at v ending
+pub record GivesWorld (v : World) (bound : ℕ) (r : Run) : Type 0 where
+  pub ticks : v.state.ticks ≤ bound
+  pub ending : Ending
+  pub is : r ≡ run_at v ending
 
-stops_by : (v : World) (bound : ℕ) (r : Run) (e : machine.Event) → StopsBy e v bound r → GivesWorld v bound r
+pub stops_by : (v : World) (bound : ℕ) (r : Run) (e : machine.Event) → StopsBy e v bound r → GivesWorld v bound r
 stops_by v bound r (answer.Ended x) h = record { ticks = h.0; ending = ending.Ended x; is = h.1 }
 stops_by v bound r (answer.Trapped t) h = record { ticks = h.0; ending = ending.Trapped t; is = h.1 }
 stops_by v bound r answer.Ticked h = record { ticks = omega (arith, h.0); ending = ending.Going; is = h.1 }

@@ -68,7 +68,7 @@ none_more (Took ∷ es) e h n = none_more es e h n
 none_more (Excluded k ∷ es) e h n = absurd h
 none_more (Checkpoint m t ∷ es) e h n = none_more es e h n
 
-none_written : (c : ℕ) → Contains [] c → ⊥
+pub none_written : (c : ℕ) → Contains [] c → ⊥
 none_written c h = omega (arith, h.1)
 
 -- one event more behind
@@ -107,7 +107,7 @@ or_one false b e = inr e
 first_here : (d c : ℕ) → (d == c) ≡ true → Contains (d ∷ []) c
 first_here d c e = (0, omega arith, grind (arith, nat_tests, e))
 
-not_first : (d c : ℕ) → (d == c) ≡ false → Contains (d ∷ []) c → ⊥
+pub not_first : (d c : ℕ) → (d == c) ≡ false → Contains (d ∷ []) c → ⊥
 not_first d c e h = ⊎_elim (λ x. none_written c x) (λ x. absurd (grind (arith, nat_tests, e, x))) (Contains-push_cases [] d c h)
 
 module _ (T : Taking) (es : List Event) (s : Since) (h : Facts T es s) where

@@ -18,3 +18,11 @@ pub mod SinceLaws
 pub mod CodeRuns
 -- lives go like their source
 pub mod AlikeLaws
+-- what a life shows, and the images that it takes
+pub mod LifeLaws
+-- a life ends as its source
+pub mod EndLaws
+-- how much of the output a store needs
+pub mod LastingLaws
+-- no image of a store is lost
+pub mod LaterLaws

@@ -12,7 +12,7 @@ use Rattle.run_images.specs.Source.{Source}
 use Rattle.run_images.specs.Stands.{IsOpenIn, FileLists, Stands, StandsFor}
 
 -- the chain of a store with these headers
-chain_by : (c : Store) (one two : Option Header) (current : Option (DiskFile × Header)) → header_in One c.one ≡ Ok one → header_in Two c.two ≡ Ok two → newer (only_open one) (only_open two) ≡ Ok current → chain_in c ≡ found_in c current
+pub chain_by : (c : Store) (one two : Option Header) (current : Option (DiskFile × Header)) → header_in One c.one ≡ Ok one → header_in Two c.two ≡ Ok two → newer (only_open one) (only_open two) ≡ Ok current → chain_in c ≡ found_in c current
 unfolding chain_in
 chain_by c one two current first second both =
     ap (λ (x : Result (Option Header) Damage). x >>= λ one. header_in Two c.two >>= λ two. newer (only_open one) (only_open two) >>= λ current. found_in c current) first

@@ -30,7 +30,7 @@ module _ (f : DiskFile) (c d : Store) (same : file_of f c ≡ file_of f d) where
   open_same : (h : Header) → IsOpenIn f h c → IsOpenIn f h d
   open_same h a = record { header = sym (ap (header_in f) same) ∙ a.header; gate = a.gate }
 
-  lists_same : (h : Header) (rs : List Image) → FileLists f h rs c → FileLists f h rs d
+  pub lists_same : (h : Header) (rs : List Image) → FileLists f h rs c → FileLists f h rs d
   lists_same h rs a = record { open_in = open_same h a.open_in; read = sym (ap (λ (l : List ℕ). records_at h.max f l None 15) same) ∙ a.read; number = a.number }
 
 -- other bytes behind the front that they need
@@ -65,12 +65,12 @@ bind_ok (Ok a) k y e = (a, refl, e)
 bind_ok (Err d) k y e = absurd (let z : Err d ≡ Ok y = e in cc)
 
 -- how the headers of a found chain stand
-record Heads (c : Store) (one two : Option Header) (f : DiskFile) (h : Header) : Type 0 where
-  first : header_in One c.one ≡ Ok one
-  second : header_in Two c.two ≡ Ok two
-  image_file : f ≢ Output
-  open_in : IsOpenIn f h c
-  aside : (k : Header) → IsOpenIn (other f) k c → k.generation < h.generation
+pub record Heads (c : Store) (one two : Option Header) (f : DiskFile) (h : Header) : Type 0 where
+  pub first : header_in One c.one ≡ Ok one
+  pub second : header_in Two c.two ≡ Ok two
+  pub image_file : f ≢ Output
+  pub open_in : IsOpenIn f h c
+  pub aside : (k : Header) → IsOpenIn (other f) k c → k.generation < h.generation
 
 same_header : (x : Result (Option Header) Damage) (o : Option Header) (k : Header) → x ≡ Ok o → x ≡ Ok (Some k) → o ≡ Some k
 same_header x o k a b = cc
@@ -143,18 +143,18 @@ module _ (c : Store) (one two : Option Header) (first : header_in One c.one ≡ 
     by_each None (Some k) a b = there f Two h k (two_heads k b (λ m z. absurd (none_is_some m (sym a ∙ z)))) (same_pair f Two h k (newer None (Some k)) (chosen None (Some k) a b) refl)
     by_each (Some a) (Some b) x y = by_generation a b x y (a.generation == b.generation) (nat_lt b.generation a.generation) refl refl
 
-    heads : Heads c one two f h
+    pub heads : Heads c one two f h
     heads = by_each (only_open one) (only_open two) refl refl
 
 -- the parts of a chain that was found
 pub record Parts (c : Store) (found : Option Found) : Type 0 where
-  one : Option Header
-  two : Option Header
-  first : header_in One c.one ≡ Ok one
-  second : header_in Two c.two ≡ Ok two
-  current : Option (DiskFile × Header)
-  both : newer (only_open one) (only_open two) ≡ Ok current
-  found_is : found_in c current ≡ Ok found
+  pub one : Option Header
+  pub two : Option Header
+  pub first : header_in One c.one ≡ Ok one
+  pub second : header_in Two c.two ≡ Ok two
+  pub current : Option (DiskFile × Header)
+  pub both : newer (only_open one) (only_open two) ≡ Ok current
+  pub found_is : found_in c current ≡ Ok found
 
 pub parts_of : (c : Store) (found : Option Found) → chain_in c ≡ Ok found → Parts c found
 unfolding chain_in
@@ -199,7 +199,7 @@ other_not One not e = absurd (let z : Two ≡ Output = e in cc)
 other_not Two not e = absurd (let z : One ≡ Output = e in cc)
 
 -- an image file is this one or the other
-this_or_other : (f g : DiskFile) → f ≢ Output → g ≢ Output → (g ≡ f) ⊎ (g ≡ other f)
+pub this_or_other : (f g : DiskFile) → f ≢ Output → g ≢ Output → (g ≡ f) ⊎ (g ≡ other f)
 this_or_other Output g nf ng = absurd (nf refl)
 this_or_other f Output nf ng = absurd (ng refl)
 this_or_other One One nf ng = inl refl
@@ -216,7 +216,7 @@ same_open f h k c a b = header_is (header_in f (file_of f c)) a.header b.header
 records_are : (x : Result (List Image) Damage) (rs qs : List Image) → x ≡ Ok rs → x ≡ Ok qs → rs ≡ qs
 records_are x rs qs p q = cc
 
-same_lists : (f : DiskFile) (h k : Header) (rs qs : List Image) (c : Store) → FileLists f h rs c → FileLists f k qs c → (h ≡ k) × (rs ≡ qs)
+pub same_lists : (f : DiskFile) (h k : Header) (rs qs : List Image) (c : Store) → FileLists f h rs c → FileLists f k qs c → (h ≡ k) × (rs ≡ qs)
 same_lists f h k rs qs c a b =
     let e = same_open f h k c a.open_in b.open_in in
     (e, records_are (records_at k.max f (file_of f c) None 15) rs qs (subst (λ (m : Header). records_at m.max f (file_of f c) None 15 ≡ Ok rs) e a.read) b.read)
@@ -251,7 +251,7 @@ none_open_in c g k ng p a = by_current p.current refl
         none_found (Ok None) (record { file = f; header = h; records = read.0 }) refl (sym number.2)
 
 -- a front of n bytes at most
-front_length : (n : ℕ) (o bytes : List ℕ) → take (length o) (take n bytes) ≡ o → length o ≤ n
+pub front_length : (n : ℕ) (o bytes : List ℕ) → take (length o) (take n bytes) ≡ o → length o ≤ n
 front_length n o bytes e = omega (arith, ap length e, length-take (length o) (take n bytes), length-take n bytes)
 
 module _ (s : Source) (n : ℕ) (bytes : List ℕ) (f : DiskFile) (h : Header) (d c : Store) (within : StandsWithin s n d) (front : take n d.output ≡ take n bytes) (aside : (file_of (other f) c ≡ file_of (other f) d) ⊎ ((k : Header) → IsOpenIn (other f) k c → ⊥)) (output : c.output ≡ d.output) where

@@ -20,5 +20,7 @@ pub mod Spared
 pub mod Compiled
 -- where the run of a life begins, and when it goes like its source
 pub mod Origin
+-- what a life has shown of its source, and the images that it takes
+pub mod Shown
 -- what is asked of the crates below
 pub mod Asked

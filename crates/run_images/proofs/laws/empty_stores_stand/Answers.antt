@@ -1,5 +1,0 @@
-use Rattle.run_images.proofs.StandLaws.{empty_stands}
-use Rattle.run_images.proofs.laws.empty_stores_stand.Goals as goal
-
-pub returns : goal.returns
-returns c = record { law = empty_stands }
