@@ -4,5 +4,7 @@ pub mod ReachLaws
 pub mod ExcludedLaws
 -- rows by nodes
 pub mod RowLaws
+-- graphs whose nodes do the same have the same excluded cells
+pub mod SameSets
 -- cells that all nodes treat alike
 pub mod ClassLaws

@@ -10,10 +10,12 @@ mod borders;
 mod classes;
 mod equations;
 mod exclusions;
+mod laws;
 mod signature;
 
 pub use classes::Classes;
 pub use exclusions::{Exclusions, find_exclusions};
+pub use laws::same_graphs_have_the_same_sets;
 
 #[cfg(test)]
 mod tests;

@@ -7,6 +7,8 @@ pub mod Built
 pub mod Marks
 pub mod WorkExcludes
 pub mod MainWhole
+-- graphs of `main` do the same
+pub mod SameMain
 pub mod CheckpointLaws
 -- the works of what keeps the rules keep them
 pub mod WorkRuleLaws

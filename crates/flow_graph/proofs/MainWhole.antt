@@ -101,6 +101,10 @@ module _ (p : Resolved) (g : Graph) (made : IsMainGraph p g) where
       ap (λ (o : Option Node). option_map_or (λ d. d.mark) o Plain) (sym a) ∙ o.2.marked)
       ∙ body_numbers p.main.body
 
+  -- as many as the text has
+  pub excludes_are : exclude_count g ≡ length (excludes p.main.body)
+  excludes_are = numbers_count Node (λ d. d.mark) g.nodes ∙ ap (λ (ns : List ℕ). length ns) numbers_are
+
   pub main_is_whole : IsChecked p → IsWhole g
   main_is_whole checked =
       let counts = ap (counts_from 1) numbers_are ∙ checked.exclude_numbers in

@@ -1,13 +1,15 @@
 // Laws of the definitions: functions that do nothing, whose contracts are theorems.
 
-ghost use Rattle.std.specs.Prelude.{◌≡◌, ◌↔◌, ℕ, true, List, Some, Contains, slice_get};
+ghost use Rattle.std.specs.Prelude.{◌≡◌, ◌↔◌, ℕ, true, List, length, Some, Contains, slice_get};
 ghost use Rattle.std.specs.List.{list_all};
 ghost use Rattle.std.specs.List.Sorted.{IsStrictlyIncreasing};
 ghost use Rattle.path_laws.specs.Graph as effects;
-ghost use Rattle.path_laws.specs.Graph.{IsWhole};
+ghost use Rattle.path_laws.specs.Graph.{IsWhole, exclude_count};
+ghost use Rattle.exclusion_equations.specs.Excluded.{Sets, AreExact};
 ghost use Rattle.c_tree.specs.declared.resolved.RStmt.{RStmt};
 ghost use Rattle.c_tree.specs.declared.resolved.RFunction.{RFunction};
 ghost use Rattle.c_tree.specs.declared.resolved.Resolved.{Resolved};
+ghost use Rattle.c_tree.specs.Excludes.{excludes};
 ghost use Rattle.c_tree.specs.Checked.{IsChecked, in_main, in_function};
 ghost use Rattle.c_tree.specs.State.{State, first_state};
 ghost use Rattle.c_tree.specs.Meaning.{meaning};
@@ -20,6 +22,8 @@ ghost use Rattle.flow_graph.specs.GoesOn.{GoesOn};
 ghost use Rattle.flow_graph.specs.Joined.{IsJoined};
 ghost use Rattle.flow_graph.specs.MainGraph.{IsMainGraph};
 ghost use Rattle.flow_graph.specs.Checkpoints.{checkpoints_of};
+
+use exclusion_equations::same_graphs_have_the_same_sets;
 
 /// The graphs of a program mean what its source means, event for event and tick for tick, for every input and bound.
 pub fn graphs_mean_their_programs()
@@ -37,10 +41,19 @@ pub fn graphs_are_joined()
     ensures law { (locals : ℕ) (body : RStmt) → IsJoined (graph_of locals body) }
 {}
 
-/// The graph of `main` is whole: its edges and its entry name nodes, and its EXCLUDE_HERE have the numbers from 1 on, each once.
+/// The graph of `main` is whole: its edges and its entry name nodes, and its EXCLUDE_HERE have the numbers from 1 on, each once. It has as many as
+/// the text.
 pub fn main_graphs_are_whole()
     ensures law { (p : Resolved) (g : effects.Graph) → IsMainGraph p g → IsChecked p → IsWhole g }
+    ensures excludes { (p : Resolved) (g : effects.Graph) → IsMainGraph p g → exclude_count g ≡ length (excludes p.main.body) }
 {}
+
+/// A program has one pair of excluded sets: what is exact for one graph of its `main` is so for each.
+pub fn programs_have_one_pair_of_sets()
+    ensures law { (p : Resolved) (g h : effects.Graph) (s : Sets) → IsMainGraph p g → IsMainGraph p h → AreExact g s → AreExact h s }
+{
+    same_graphs_have_the_same_sets();
+}
 
 /// What each node of a checked program does keeps the rules of the language: in `main`, and in each function.
 pub fn works_keep_the_rules()

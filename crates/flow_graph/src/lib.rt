@@ -29,7 +29,7 @@ pub use agreement::{
 pub use graphs::{Graphs, graph};
 pub use laws::{
     checkpoints_are_exact, graph_runs_go_on, graphs_are_joined, graphs_mean_their_programs,
-    main_graphs_are_whole, works_keep_the_rules,
+    main_graphs_are_whole, programs_have_one_pair_of_sets, works_keep_the_rules,
 };
 pub use node::NodeWork;
 pub use node_effects::{NodeSets, node_sets};
