@@ -17,7 +17,7 @@ use Rattle.alias_sets.specs.declared.flows.PointerVar.TheVariants as var
 use Rattle.alias_sets.specs.declared.flows.Flow.{Flow}
 use Rattle.alias_sets.specs.Flows.{source, passed, flows}
 use Rattle.path_laws.specs.Graph as effects
-use Rattle.path_laws.specs.Graph.{may_read, kills, has_edge, next_of}
+use Rattle.path_laws.specs.Graph.{may_read, may_write, kills, has_edge, next_of}
 use Rattle.path_laws.specs.Edge.{is_at}
 use Rattle.access_summary.specs.Edges.{Edge}
 use Rattle.access_summary.specs.declared.effects.Effect.{Effect}
@@ -26,19 +26,21 @@ use Rattle.access_summary.specs.declared.touch.Access.TheVariants as access'
 use Rattle.access_summary.specs.Effects as text
 use Rattle.access_summary.specs.Effects.{all_effects, call_effects, expr_effects, stored, pointer_effects}
 use Rattle.access_summary.specs.Touch.{Touches}
-use Rattle.access_summary.specs.Summaries.{FunctionReads}
+use Rattle.access_summary.specs.declared.touch.Access.{Access}
+use Rattle.access_summary.specs.Summaries.{bodies, ReachesAccess}
 use Rattle.flow_graph.specs.declared.node.NodeWork.{NodeWork}
 use Rattle.flow_graph.specs.declared.node.NodeWork.TheVariants as work
 use Rattle.flow_graph.specs.Works.{works_of_body}
 use Rattle.flow_graph.specs.WorkRules.{work_keeps}
-use Rattle.flow_graph.specs.NodeEffects.{work_effects, NodeReads, NodeKills}
+use Rattle.flow_graph.specs.NodeEffects.{work_effects, NodeReads, NodeWrites, NodeKills}
+use Rattle.flow_graph.specs.EffectCells.{EffectsDo}
 use Rattle.flow_graph.specs.MainGraph.{IsMainGraph}
 use Rattle.flow_graph.specs.Run.{Graph, Waits, Store, Return, Frame, graph_of_function, graphs_of, graph_at, edge_in, work_in}
 use Rattle.flow_graph.specs.Wanted.{IsWanted}
 use Rattle.flow_graph.specs.Agreement.{call_of, AreCalls, Place, IsOutside, Counts, AreAlike, IsKept, KeepsLocals, KeepsPointers}
 use Rattle.flow_graph.proofs.WorkRuleLaws.{all_at, main_works_keep, function_works_keep}
 use Rattle.flow_graph.proofs.AgreeValues.{IsWorldOf, world_of_main, world_of_function, touches_left, touches_right}
-use Rattle.flow_graph.proofs.AgreeFlows.{Has, has_left, has_right, IsNodeOf, function_reads, agree_some}
+use Rattle.flow_graph.proofs.AgreeFlows.{Has, has_left, has_right, IsNodeOf, function_does, agree_some}
 use Rattle.flow_graph.proofs.AgreeStores.{zero_kept, same_value, value_kept}
 
 -- ---- nodes of a program's graphs
@@ -83,34 +85,9 @@ work_of p h (Some f) m k n = record {
   node = n;
 }
 
--- ---- what counts
+-- ---- what calls do
 
-module _ (p : Resolved) (g : effects.Graph) (mg : IsMainGraph p g) where
-  -- what a node of `main` may read is wanted before it
-  pub main_reads : (m : ℕ) (to : Edge) (k : NodeWork) (c : ℕ) → edge_in (graph_at (graphs_of p) None) m ≡ Some to → work_in (graph_at (graphs_of p) None) m ≡ Some k → c < cell_count p → NodeReads p None k c → IsWanted g c m
-  main_reads m to k c e w lt r =
-      let node = mg.nodes m to k e w in
-      let within = slice_get_within (works_of_body p.main.body) m k w in
-      ([], omega (arith, mg.count, within), (node.reads c lt).1 r)
-
-  is_at_itself : (o : Option ℕ) (m : ℕ) → o ≡ Some m → is_at o m ≡ true
-  is_at_itself o m e = ap (λ x. is_at x m) e ∙ eq-eqb m m refl
-
-  edge_there : (m m' : ℕ) (to : Edge) → next_of g m ≡ to → (to.0 ≡ Some m') ⊎ (to.1 ≡ Some m') → has_edge g m m' ≡ true
-  edge_there m m' to is (inl e) = or_left (is_at (next_of g m).0 m') (is_at (next_of g m).1 m') (is_at_itself (next_of g m).0 m' (ap (λ (x : Edge). x.0) is ∙ e))
-  edge_there m m' to is (inr e) = or_right (is_at (next_of g m).0 m') (is_at (next_of g m).1 m') (is_at_itself (next_of g m).1 m' (ap (λ (x : Edge). x.1) is ∙ e))
-
-  -- what is wanted before the next node is wanted before this one, or this one kills it
-  pub next_wanted : (m m' : ℕ) (to : Edge) (k : NodeWork) (c : ℕ) → edge_in (graph_at (graphs_of p) None) m ≡ Some to → work_in (graph_at (graphs_of p) None) m ≡ Some k → (to.0 ≡ Some m') ⊎ (to.1 ≡ Some m') → c < cell_count p → IsWanted g c m' → IsWanted g c m ⊎ NodeKills p None k c
-  next_wanted m m' to k c e w at lt wanted =
-      let node = mg.nodes m to k e w in
-      elim (cases_Bool (kills g m c)) [
-        | inl y ↦ inr ((node.kills c lt).0 y)
-        | inr n ↦ inl (m' ∷ wanted.0, (edge_there m m' to node.next at, wanted.1), (n, wanted.2))
-      ]
-
-  -- ---- calls
-
+module _ (p : Resolved) where
   call_there : (f : Option ℕ) (k : NodeWork) (h : ℕ) (w : Waits) → call_of k ≡ Some (w, h) → Has (work_effects f k) (effect.Call h)
   call_there f k h w e = found k e
     where
@@ -136,35 +113,95 @@ module _ (p : Resolved) (g : effects.Graph) (mg : IsMainGraph p g) where
       found (work.Exclude a) e = no_call e
       found work.End e = no_call e
 
-  called_reads : (f : Option ℕ) (k : NodeWork) (h c : ℕ) (w : Waits) → call_of k ≡ Some (w, h) → FunctionReads p h c → NodeReads p f k c
-  called_reads f k h c w e r = let q = call_there f k h w e in inr (h, q.0, q.1, r)
+  called_does : (a : Access) (f : Option ℕ) (k : NodeWork) (h c : ℕ) (w : Waits) → call_of k ≡ Some (w, h) → ReachesAccess p (bodies p) a h c → EffectsDo p a (work_effects f k) c
+  called_does a f k h c w e r = let q = call_there f k h w e in inr (h, q.0, q.1, r)
 
-  -- what the innermost function may read is wanted before the node of `main` at which the first call was made
-  pub calls_read : (n h : ℕ) (frs : List Frame) (c : ℕ) → AreCalls p n (Some h) frs → c < cell_count p → FunctionReads p h c → IsWanted g c n
-  calls_read n h [] c a lt r = absurd a
-  calls_read n h (fr ∷ []) c a lt r = first fr.function refl
+  -- node n of `main` may do so to cell c
+  pub record MainDoes (a : Access) (n c : ℕ) : Type 0 where
+    pub edge : Edge
+    pub work : NodeWork
+    pub is_edge : edge_in (graph_at (graphs_of p) None) n ≡ Some edge
+    pub is_work : work_in (graph_at (graphs_of p) None) n ≡ Some work
+    pub does : EffectsDo p a (work_effects None work) c
+
+  -- what the innermost function may do, the node of `main` at which the first call was made may do
+  calls_do : (a : Access) (n h : ℕ) (frs : List Frame) (c : ℕ) → AreCalls p n (Some h) frs → ReachesAccess p (bodies p) a h c → MainDoes a n c
+  calls_do a n h [] c calls r = absurd calls
+  calls_do a n h (fr ∷ []) c calls r = first fr.function refl
     where
-      first : (o : Option ℕ) → fr.function ≡ o → IsWanted g c n
+      first : (o : Option ℕ) → fr.function ≡ o → MainDoes a n c
       first None is =
-          let call = a.0 in
-          main_reads n call.edge call.work c (subst (λ o. edge_in (graph_at (graphs_of p) o) n ≡ Some call.edge) is call.is_edge) (subst (λ o. work_in (graph_at (graphs_of p) o) n ≡ Some call.work) is call.is_work) lt
-          (called_reads None call.work h c fr.waits call.calls r)
-      first (Some j) is = absurd (subst (λ o. AreCalls p n o []) is a.1)
-  calls_read n h (fr ∷ (below ∷ frs)) c a lt r = later (λ j b q. calls_read n j (below ∷ frs) c b lt q) fr.function refl
+          let call = calls.0 in
+          record {
+            edge = call.edge;
+            work = call.work;
+            is_edge = subst (λ o. edge_in (graph_at (graphs_of p) o) n ≡ Some call.edge) is call.is_edge;
+            is_work = subst (λ o. work_in (graph_at (graphs_of p) o) n ≡ Some call.work) is call.is_work;
+            does = called_does a None call.work h c fr.waits call.calls r;
+          }
+      first (Some j) is = absurd (subst (λ o. AreCalls p n o []) is calls.1)
+  calls_do a n h (fr ∷ (below ∷ frs)) c calls r = later (λ j b q. calls_do a n j (below ∷ frs) c b q) fr.function refl
     where
-      later : ((j : ℕ) → AreCalls p n (Some j) (below ∷ frs) → FunctionReads p j c → IsWanted g c n) → (o : Option ℕ) → fr.function ≡ o → IsWanted g c n
-      later go None is = absurd (subst (λ o. AreCalls p n o (below ∷ frs)) is a.1)
+      later : ((j : ℕ) → AreCalls p n (Some j) (below ∷ frs) → ReachesAccess p (bodies p) a j c → MainDoes a n c) → (o : Option ℕ) → fr.function ≡ o → MainDoes a n c
+      later go None is = absurd (subst (λ o. AreCalls p n o (below ∷ frs)) is calls.1)
       later go (Some j) is =
-          let k = a.0.0 in
-          let call = a.0.1 in
+          let k = calls.0.0 in
+          let call = calls.0.1 in
           let node = node_of p (Some j) k call.work (subst (λ o. work_in (graph_at (graphs_of p) o) k ≡ Some call.work) is call.is_work) in
-          go j (subst (λ o. AreCalls p n o (below ∷ frs)) is a.1) (function_reads p j k call.work c node (called_reads (Some j) call.work h c fr.waits call.calls r))
+          go j (subst (λ o. AreCalls p n o (below ∷ frs)) is calls.1) (function_does a p j k call.work c node (called_does a (Some j) call.work h c fr.waits call.calls r))
+
+  -- so does what a node of the innermost function may do
+  pub node_does : (a : Access) (n : ℕ) (f : Option ℕ) (m : ℕ) (frs : List Frame) (to : Edge) (k : NodeWork) (c : ℕ) → AreCalls p n f frs → (frs ≡ [] → n ≡ m) → edge_in (graph_at (graphs_of p) f) m ≡ Some to → work_in (graph_at (graphs_of p) f) m ≡ Some k → EffectsDo p a (work_effects f k) c → MainDoes a n c
+  node_does a n None m [] to k c calls out e w d = record {
+    edge = to;
+    work = k;
+    is_edge = subst (λ i. edge_in (graph_at (graphs_of p) None) i ≡ Some to) (sym (out refl)) e;
+    is_work = subst (λ i. work_in (graph_at (graphs_of p) None) i ≡ Some k) (sym (out refl)) w;
+    does = d;
+  }
+  node_does a n None m (fr ∷ frs) to k c calls out e w d = absurd calls
+  node_does a n (Some f) m frs to k c calls out e w d = calls_do a n f frs c calls (function_does a p f m k c (node_of p (Some f) m k w) d)
+
+pub outside_node : (l : Place) (m : ℕ) (frs : List Frame) → IsOutside l m frs → frs ≡ [] → l.node ≡ m
+outside_node l m frs out e = (subst (λ (q : List Frame). IsOutside l m q) e out).0
+
+-- ---- what counts
+
+module _ (p : Resolved) (g : effects.Graph) (mg : IsMainGraph p g) where
+  -- what a node of `main` may read is wanted before it
+  pub main_reads : (m : ℕ) (to : Edge) (k : NodeWork) (c : ℕ) → edge_in (graph_at (graphs_of p) None) m ≡ Some to → work_in (graph_at (graphs_of p) None) m ≡ Some k → c < cell_count p → NodeReads p None k c → IsWanted g c m
+  main_reads m to k c e w lt r =
+      let node = mg.nodes m to k e w in
+      let within = slice_get_within (works_of_body p.main.body) m k w in
+      ([], omega (arith, mg.count, within), (node.reads c lt).1 r)
+
+  is_at_itself : (o : Option ℕ) (m : ℕ) → o ≡ Some m → is_at o m ≡ true
+  is_at_itself o m e = ap (λ x. is_at x m) e ∙ eq-eqb m m refl
+
+  pub edge_there : (m m' : ℕ) (to : Edge) → next_of g m ≡ to → (to.0 ≡ Some m') ⊎ (to.1 ≡ Some m') → has_edge g m m' ≡ true
+  edge_there m m' to is (inl e) = or_left (is_at (next_of g m).0 m') (is_at (next_of g m).1 m') (is_at_itself (next_of g m).0 m' (ap (λ (x : Edge). x.0) is ∙ e))
+  edge_there m m' to is (inr e) = or_right (is_at (next_of g m).0 m') (is_at (next_of g m).1 m') (is_at_itself (next_of g m).1 m' (ap (λ (x : Edge). x.1) is ∙ e))
+
+  -- what is wanted before the next node is wanted before this one, or this one kills it
+  pub next_wanted : (m m' : ℕ) (to : Edge) (k : NodeWork) (c : ℕ) → edge_in (graph_at (graphs_of p) None) m ≡ Some to → work_in (graph_at (graphs_of p) None) m ≡ Some k → (to.0 ≡ Some m') ⊎ (to.1 ≡ Some m') → c < cell_count p → IsWanted g c m' → IsWanted g c m ⊎ NodeKills p None k c
+  next_wanted m m' to k c e w at lt wanted =
+      let node = mg.nodes m to k e w in
+      elim (cases_Bool (kills g m c)) [
+        | inl y ↦ inr ((node.kills c lt).0 y)
+        | inr n ↦ inl (m' ∷ wanted.0, (edge_there m m' to node.next at, wanted.1), (n, wanted.2))
+      ]
 
   -- what the next node may read counts
   pub node_counts : (l : Place) (f : Option ℕ) (m : ℕ) (frs : List Frame) (to : Edge) (k : NodeWork) (c : ℕ) → AreCalls p l.node f frs → IsOutside l m frs → edge_in (graph_at (graphs_of p) f) m ≡ Some to → work_in (graph_at (graphs_of p) f) m ≡ Some k → c < cell_count p → NodeReads p f k c → Counts g l c
-  node_counts l None m [] to k c a out e w lt r = inl (subst (λ n. IsWanted g c n) (sym out.0) (main_reads m to k c e w lt r))
-  node_counts l None m (fr ∷ frs) to k c a out e w lt r = absurd a
-  node_counts l (Some f) m frs to k c a out e w lt r = inl (calls_read l.node f frs c a lt (function_reads p f m k c (node_of p (Some f) m k w) r))
+  node_counts l f m frs to k c a out e w lt r =
+      let d = node_does p access'.Read l.node f m frs to k c a (outside_node l m frs out) e w r in
+      inl (main_reads l.node d.edge d.work c d.is_edge d.is_work lt d.does)
+
+  -- what the next node may write, the node of `main` may write, from which the calls come
+  pub node_writes : (n : ℕ) (f : Option ℕ) (m : ℕ) (frs : List Frame) (to : Edge) (k : NodeWork) (c : ℕ) → AreCalls p n f frs → (frs ≡ [] → n ≡ m) → edge_in (graph_at (graphs_of p) f) m ≡ Some to → work_in (graph_at (graphs_of p) f) m ≡ Some k → c < cell_count p → NodeWrites p f k c → may_write g n c ≡ true
+  node_writes n f m frs to k c a out e w lt r =
+      let d = node_does p access'.Write n f m frs to k c a out e w r in
+      ((mg.nodes n d.edge d.work d.is_edge d.is_work).writes c lt).1 d.does
 
 -- ---- into a call
 

@@ -29,12 +29,14 @@ use Rattle.access_summary.specs.declared.effects.Named.TheVariants as named'
 use Rattle.access_summary.specs.declared.effects.Effect.{Effect}
 use Rattle.access_summary.specs.declared.effects.Effect.TheVariants as effect
 use Rattle.access_summary.specs.Effects.{Seen, seen, seen_at, source_in, moved, stmt_effects}
-use Rattle.access_summary.specs.Summaries.{bodies_from, bodies, body_of, FunctionReads}
+use Rattle.access_summary.specs.declared.touch.Access.{Access}
+use Rattle.access_summary.specs.Summaries.{bodies_from, bodies, body_of, ReachesAccess}
 use Rattle.flow_graph.specs.declared.node.NodeWork.{NodeWork}
 use Rattle.flow_graph.specs.declared.node.NodeWork.TheVariants as work
 use Rattle.flow_graph.specs.Works.{Works, works, works_of_body}
 use Rattle.flow_graph.specs.WorkRules.{work_keeps}
-use Rattle.flow_graph.specs.NodeEffects.{work_effects, NodeReads}
+use Rattle.flow_graph.specs.NodeEffects.{work_effects}
+use Rattle.flow_graph.specs.EffectCells.{EffectsDo}
 use Rattle.flow_graph.proofs.WorkRuleLaws.{main_works_keep, function_works_keep}
 use Rattle.flow_graph.proofs.AgreeText.{each, each_both, nothing_more, work_flows, flows_of_nodes, effects_of_nodes}
 use Rattle.flow_graph.proofs.AgreeValues.{IsWorldOf, world_of_main, world_of_function}
@@ -282,7 +284,7 @@ node_effects p f j k x n i =
     subst (λ l. Has l x) (each_of_body (work_effects (Some f)) refl (n.0).body ∙ sym (effects_of_nodes (Some f) (n.0).body) ∙ ap (λ j. stmt_effects (Some j) (n.0).body) (omega arith) ∙ sym (bodies_are p.functions 0 f n.0 n.1))
     (has_each (work_effects (Some f)) (works_of_body (n.0).body) j k x n.2 i)
 
--- what a node reads, its function reads
-pub function_reads : (p : Resolved) (f j : ℕ) (k : NodeWork) (c : ℕ) → IsNodeOf p (Some f) j k → NodeReads p (Some f) k c → FunctionReads p f c
-function_reads p f j k c n (inl t) = let q = node_effects p f j k t.1 n (t.0, t.2) in (f, [], refl, (q.0, t.1, q.1, t.3))
-function_reads p f j k c n (inr t) = let q = node_effects p f j k (effect.Call t.0) n (t.1, t.2) in let r = t.3 in (r.0, t.0 ∷ r.1, ((q.0, q.1), r.2), r.3)
+-- what a node may do, its function may
+pub function_does : (a : Access) (p : Resolved) (f j : ℕ) (k : NodeWork) (c : ℕ) → IsNodeOf p (Some f) j k → EffectsDo p a (work_effects (Some f) k) c → ReachesAccess p (bodies p) a f c
+function_does a p f j k c n (inl t) = let q = node_effects p f j k t.1 n (t.0, t.2) in (f, [], refl, (q.0, t.1, q.1, t.3))
+function_does a p f j k c n (inr t) = let q = node_effects p f j k (effect.Call t.0) n (t.1, t.2) in let r = t.3 in (r.0, t.0 ∷ r.1, ((q.0, q.1), r.2), r.3)

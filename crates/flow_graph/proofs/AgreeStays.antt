@@ -1,20 +1,17 @@
 -- What is forgettable stays so until it is written.
 use Rattle.std.proofs.Common.{◌≡◌, ℕ, zero, suc, ◌<◌, ◌⊎◌, true, false, List, [], ◌∷◌, ◌++◌, length, Option, Some, None, inl, inr, refl, sym, ap, ◌∙◌, subst, arith, length-append}
 use Rattle.std.specs.Prelude.{slice_get}
-use Rattle.std.specs.Option.{option_map_or}
 use Rattle.std.specs.List.{Contains}
 use Rattle.std.proofs.lemmas.Bool.{cases_Bool, false≢true}
-use Rattle.std.proofs.lemmas.Option.{none-some, slice_get_within}
+use Rattle.std.proofs.lemmas.Option.{none-some}
 use Rattle.ckpt_base.specs.Event.{Event}
 use Rattle.c_tree.specs.declared.resolved.Resolved.{Resolved}
 use Rattle.c_tree.specs.Layout.{cell_count}
 use Rattle.c_tree.specs.Checked.{IsChecked}
 use Rattle.c_tree.specs.Meaning.{calls_within}
 use Rattle.c_tree.specs.State.{State}
-use Rattle.path_laws.specs.declared.graph.Mark.TheVariants as mark'
-use Rattle.path_laws.specs.declared.graph.Node.{Node}
 use Rattle.path_laws.specs.Graph as effects
-use Rattle.path_laws.specs.Graph.{has_edge, mark_of, mark_is_checkpoint, is_checkpoint, kills}
+use Rattle.path_laws.specs.Graph.{has_edge, mark_is_checkpoint, is_checkpoint, kills}
 use Rattle.path_laws.specs.Forgettable.{IsForgettable}
 use Rattle.access_summary.specs.Edges.{laid, to_end}
 use Rattle.flow_graph.specs.declared.node.NodeWork.{NodeWork}
@@ -28,11 +25,12 @@ use Rattle.flow_graph.specs.Agreement.{Place, Counts, wrote, AgreeAt, ComesTo}
 use Rattle.flow_graph.proofs.Same.{good}
 use Rattle.flow_graph.proofs.AgreeStores.{nothing_there}
 use Rattle.flow_graph.proofs.AgreeRuns.{comes_alike, wanted_after}
+use Rattle.flow_graph.proofs.WalkEvents.{marked_within}
 
 tail_same : {A : Type 0} (x : A) (ys zs : List A) → ◌≡◌ {A = List A} (x ∷ ys) (x ∷ zs) → ys ≡ zs
 tail_same x ys zs e = cc
 
-behind_same : {A : Type 0} (xs ys zs : List A) → xs ++ ys ≡ xs ++ zs → ys ≡ zs
+pub behind_same : {A : Type 0} (xs ys zs : List A) → xs ++ ys ≡ xs ++ zs → ys ≡ zs
 behind_same [] ys zs e = e
 behind_same (x ∷ xs) ys zs e = behind_same xs ys zs (tail_same x (xs ++ ys) (xs ++ zs) e)
 
@@ -70,17 +68,10 @@ marked_checkpoint (work.Test a) e = absurd (false≢true e)
 marked_checkpoint work.End e = absurd (false≢true e)
 
 module _ (p : Resolved) (h : IsChecked p) (g : effects.Graph) (mg : IsMainGraph p g) where
-  marked_within : (j : ℕ) → is_checkpoint g j ≡ true → j < length g.nodes
-  marked_within j e = by (slice_get g.nodes j) refl
-    where
-      by : (o : Option Node) → slice_get g.nodes j ≡ o → j < length g.nodes
-      by None is = absurd (false≢true (sym (ap (λ (o : Option Node). mark_is_checkpoint (option_map_or (λ d. d.mark) o mark'.Plain)) is) ∙ e))
-      by (Some d) is = slice_get_within g.nodes j d is
-
   -- a CHECKPOINT_HERE kills nothing
   checkpoint_kills : (j c : ℕ) → c < cell_count p → is_checkpoint g j ≡ true → kills g j c ≡ false
   checkpoint_kills j c lt e =
-      let within = marked_within j e in
+      let within = marked_within g j e in
       let w = there_is (main_of p).works j (omega (arith, mg.count)) in
       let to = there_is (main_of p).edges j (omega (arith, mg.count, edges_long p)) in
       let node = mg.nodes j to.0 w.0 to.1 w.1 in

@@ -103,7 +103,7 @@ object_within first [] o b e = absurd (none-some b e)
 object_within first (x ∷ os) zero b e = let same : (first, x.length) ≡ b = cc in let f = ap (λ (t : ℕ × ℕ). t.0) same in let n = ap (λ (t : ℕ × ℕ). t.1) same in omega arith
 object_within first (x ∷ os) (suc o) b e = let h = object_within (first + x.length) os o b e in omega arith
 
-lies_within : (p : Resolved) (o c : ℕ) → LiesIn p o c → c < cell_count p
+pub lies_within : (p : Resolved) (o c : ℕ) → LiesIn p o c → c < cell_count p
 lies_within p o c h = let w = object_within 0 p.objects o h.0 h.1 in let z = h.3 in omega arith
 
 -- an access that may touch a cell of the program may touch only such cells

@@ -36,6 +36,14 @@ pub mod AgreeRuns
 pub mod AgreeFirst
 -- what is forgettable stays so until it is written
 pub mod AgreeStays
+-- what walks that show events promise of them
+pub mod WalkEvents
+-- what single statements show
+pub mod ShowStores
+-- what one step shows, and where it leads
+pub mod ShowSteps
+-- runs go along walks, and spare excluded cells
+pub mod RunEvents
 -- what a pointer expression names, the text lets it give
 pub mod AgreePointers
 -- sets to which runs of cells are added

@@ -22,6 +22,10 @@ pub mod Building
 pub mod Wanted
 -- states that agree before a node, and keep their pointers
 pub mod Agreement
+-- the walk of a run, and the events that its nodes show
+pub mod RunWalks
+-- what excluded sets promise of a run's events
+pub mod Spared
 -- the cells of effects, as sets
 pub mod EffectCells
 -- the tree of a small program, for tests alone

@@ -9,6 +9,7 @@
 
 mod agreement;
 mod copies;
+mod events;
 mod function_graph;
 mod graphs;
 mod laws;
@@ -26,6 +27,7 @@ pub use agreement::{
     first_states_agree, forgettable_cells_stay, images_agree, pointers_come_from_their_text,
     runs_agree, steps_agree, steps_make_runs,
 };
+pub use events::{runs_go_along_walks, runs_spare_excluded_cells};
 pub use graphs::{Graphs, graph};
 pub use laws::{
     checkpoints_are_exact, graph_runs_go_on, graphs_are_joined, graphs_mean_their_programs,
