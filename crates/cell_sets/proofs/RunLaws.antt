@@ -237,3 +237,31 @@ pub run_within : (rs : List Run) (low high i : ℕ) (d : Run) → IsRising low r
 run_within [] low high i d h l = absurd (omega arith)
 run_within (r ∷ rs) low high zero d h l = low_within (r.first + r.count + 1) rs high h.2
 run_within (r ∷ rs) low high (suc i) d h l = run_within rs (r.first + r.count + 1) high i d h.2 (omega arith)
+
+-- runs that rise and do not touch are at most half as many as the cells
+pub rising_few : (low : ℕ) (rs : List Run) (high : ℕ) → IsRising low rs high → length rs + length rs + low ≤ high
+rising_few low [] high h = omega (arith, h)
+rising_few low (r ∷ rs) high h = let a = h.0 in let b = h.1 in let more = rising_few (r.first + r.count + 1) rs high h.2 in omega (arith, a, b, more)
+
+-- so many there are before the last one
+pub front_few : (old front : List Run) (last : Run) (from : ℕ) → old ≡ front ++ last ∷ [] → IsRising 0 old (from + 1) → length front + length front + 1 ≤ from
+front_few old front last from e h =
+    let f = front_of old front last from e h in
+    let few = rising_few 0 front last.first f.0 in
+    omega (arith, few, f.1, f.2)
+
+-- and with it, where it does not touch what follows
+pub front_all_few : (old front mid : List Run) (last : Run) (from : ℕ) → old ≡ front ++ last ∷ [] → IsRising 0 old (from + 1) → (last.first + last.count ≡ from → ⊥) → mid ≡ front ++ last ∷ [] → length mid + length mid ≤ from
+front_all_few old front mid last from e h apart m =
+    let f = front_of old front last from e h in
+    let k : IsRising 0 mid (last.first + last.count + 1) = subst (λ (x : List Run). IsRising 0 x (last.first + last.count + 1)) (sym m) (rising_push 0 front last f.0 f.1) in
+    let few = rising_few 0 mid (last.first + last.count + 1) k in
+    omega (arith, few, f.2, apart)
+
+-- all cells below the end were tested
+pub tested_whole : (passes : ℕ → Bool) (rs : List Run) (position cells : ℕ) → cells ≤ position → position ≤ cells → IsRising 0 rs (position + 1) → ((q : ℕ) → q < position → in_runs rs q ≡ passes q) → (q : ℕ) → in_runs rs q ≡ (ltb q cells && passes q)
+tested_whole passes rs position cells l m h so_far q =
+    elim (cases_lt q cells) [
+      | inl below ↦ (let t : ltb q cells ≡ true = grind (arith, nat_tests) in so_far q (omega (arith, below, l)) ∙ ap (λ b. b && passes q) (sym t))
+      | inr above ↦ (let f : ltb q cells ≡ false = grind (arith, nat_tests) in past_runs 0 rs (position + 1) q h (omega (arith, above, m)) ∙ ap (λ b. b && passes q) (sym f))
+    ]

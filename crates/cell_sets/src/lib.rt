@@ -5,11 +5,13 @@
 //! nor the words that the sets are kept in, so a faster body changes no contract above.
 //!
 //! A `CellSet` keeps rising runs, which suits sets that are few intervals. A `BitRow` keeps one bit for each number, which
-//! suits sets that grow again and again, as in a worklist. A [`RunList`] is a list of runs with its room reserved.
+//! suits sets that grow again and again, as in a worklist. A [`RunList`] is a list of runs with its room reserved; it
+//! takes in the runs of all cells that pass a [`CellTest`].
 #![tactic(auto)]
 
 mod bit_row;
 mod cell_set;
+mod cell_test;
 mod run_list;
 mod runs;
 mod sweep;
@@ -17,6 +19,7 @@ mod words;
 
 pub use bit_row::BitRow;
 pub use cell_set::CellSet;
+pub use cell_test::CellTest;
 pub use run_list::{RUN_LIST_ROOM, RunList};
 pub use runs::Run;
 

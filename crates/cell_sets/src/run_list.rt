@@ -1,5 +1,7 @@
-ghost use Rattle.std.specs.Prelude.{◌≡◌, ◌<◌, [], ◌∷◌, ◌++◌, length, IfOk};
+ghost use Rattle.std.specs.Prelude.{◌≡◌, ◌<◌, ◌≤◌, ◌+◌, ℕ, [], ◌∷◌, ◌++◌, ◌&&◌, ◌||◌, nat_le, nat_lt, length, IfOk, IfSome, IsNone};
+ghost use Rattle.cell_sets.specs.Runs.{in_runs, IsRising};
 
+use crate::cell_test::CellTest;
 use crate::runs::Run;
 use ckpt_base::NoMemory;
 use std::alloc::Global;
@@ -42,6 +44,72 @@ impl RunList {
         ensures answer { self.new ≡ self.old ++ r ∷ [] }
     {
         let _ = self.runs.push(r);
+    }
+
+    /// Makes the list the rising runs of the cells below `cells` that pass the test, of which no two touch. It takes no memory.
+    pub fn fill<T: CellTest>(&mut self, cells: u32, test: &T)
+        requires few { cells ≤ 262144 }
+        ensures rising { IsRising 0 self.new (cells + 1) }
+        ensures exact { (q : ℕ) → in_runs self.new q ≡ (nat_lt q cells && T.passes test.now q) }
+    {
+        self.clear();
+        let mut position = 0;
+        'stretches: while position < cells {
+            let (inside, next) = test.stretch_to(position, cells);
+            self.append_if(inside, position, next);
+            position = next;
+        }
+    }
+
+    // Adds the cells from `from` to `to - 1` behind the runs, if they are to be kept.
+    fn append_if(&mut self, keep: bool, from: u32, to: u32)
+        requires some { from < to }
+        requires few { to ≤ 262144 }
+        requires rising { IsRising 0 self.old (from + 1) }
+        ensures rising { IsRising 0 self.new (to + 1) }
+        ensures added { (q : ℕ) → in_runs self.new q ≡ (in_runs self.old q || (keep && (nat_le from q && nat_lt q to))) }
+    {
+        if keep {
+            self.append(from, to);
+        }
+    }
+
+    // Adds the cells from `from` to `to - 1` behind the runs, and joins them with the last run where they touch it.
+    fn append(&mut self, from: u32, to: u32)
+        requires some { from < to }
+        requires few { to ≤ 262144 }
+        requires rising { IsRising 0 self.old (from + 1) }
+        ensures rising { IsRising 0 self.new (to + 1) }
+        ensures added { (q : ℕ) → in_runs self.new q ≡ (in_runs self.old q || (nat_le from q && nat_lt q to)) }
+    {
+        match self.pop() {
+            None => self.push(Run {
+                first: from,
+                count: to - from,
+            }),
+            Some(last) => {
+                if last.first + last.count == from {
+                    self.push(Run {
+                        first: last.first,
+                        count: last.count + (to - from),
+                    });
+                } else {
+                    self.push(last);
+                    self.push(Run {
+                        first: from,
+                        count: to - from,
+                    });
+                }
+            }
+        }
+    }
+
+    // Takes the last run away.
+    fn pop(&mut self) -> Option<Run>
+        ensures none { IsNone result → (self.old ≡ []) × (self.new ≡ []) }
+        ensures some { IfSome result (λ r. self.old ≡ self.new ++ r ∷ []) }
+    {
+        self.runs.pop()
     }
 
     /// Empties the list.

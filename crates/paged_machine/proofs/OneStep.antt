@@ -1,9 +1,8 @@
 -- What one step leaves, as its caller sees it.
-use Rattle.std.proofs.Common.{◌≡◌, ℕ, ◌/◌, List, [], ◌++◌, Option, Some, None, Bool, true, false, sym, ap, ◌∙◌, subst, ◌⊎◌, inl, inr, ⊎_elim, refl}
+use Rattle.std.proofs.Common.{◌≡◌, ℕ, ◌/◌, List, [], ◌++◌, Option, Some, None, Bool, true, false, sym, ap, ◌∙◌, subst, ◌⊎◌, inl, ⊎_elim, refl}
 use Rattle.std.specs.Prelude.{slice_get}
 use Rattle.ckpt_base.specs.Event as run
 use Rattle.machine_code.specs.declared.instr.Instr.{Instr}
-use Rattle.machine_code.specs.declared.instr.Instr.TheVariants.{In}
 use Rattle.machine_code.specs.declared.event.Event.{Event}
 use Rattle.machine_code.specs.declared.event.Event.TheVariants.{Ran, Ticked, WriteFault, Out, OutNumber, WantsInput, Checkpoint, Exclude, Ended, Trapped}
 use Rattle.machine_code.specs.CodeView.{CodeView}
@@ -14,7 +13,7 @@ use Rattle.machine_code.specs.Run.{World, world, unprotected, row_at, next_row, 
 use Rattle.machine_code.proofs.RunLaws.{reaches_row, row_plain, after_by, still_world}
 use Rattle.paged_machine.specs.RunOn.{done_by}
 use Rattle.paged_machine.specs.Stepped.{Still}
-use Rattle.paged_machine.proofs.Shows.{ShownBy, Shows, row_shows}
+use Rattle.paged_machine.proofs.Shows.{ShownBy, row_shows}
 use Rattle.paged_machine.proofs.Tells.{Tells, row_tells}
 
 -- the row of the instruction at the place is the next row

@@ -1,5 +1,5 @@
 -- Where runs stop, and what they do first.
-use Rattle.std.proofs.Common.{◌≡◌, ℕ, ℤ, zero, suc, ◌+◌, ◌<◌, ◌≤◌, ◌/◌, List, [], ◌∷◌, ◌++◌, map, Bool, true, false, Option, Some, None, refl, sym, ap, ◌∙◌, subst, ◌⊎◌, ⊎_elim, arith}
+use Rattle.std.proofs.Common.{◌≡◌, ℕ, ℤ, zero, suc, ◌+◌, ◌<◌, ◌≤◌, ◌/◌, List, [], ◌∷◌, ◌++◌, map, true, false, Option, Some, None, refl, sym, ap, ◌∙◌, subst, ⊎_elim, arith}
 use Rattle.std.specs.Prelude.{slice_get}
 use Rattle.std.specs.Fmt.{signed_decimal}
 use Rattle.ckpt_base.specs.declared.ending.Ending.TheVariants as ending
@@ -12,8 +12,8 @@ use Rattle.machine_code.specs.declared.event.Event.{Event}
 use Rattle.machine_code.specs.declared.event.Event.TheVariants.{Ran, Ticked, WriteFault, Out, OutNumber, WantsInput, Checkpoint, Exclude, Ended, Trapped}
 use Rattle.machine_code.specs.CodeView.{CodeView}
 use Rattle.machine_code.specs.State.{State}
-use Rattle.machine_code.specs.Row.{Done, row}
-use Rattle.machine_code.specs.Run.{World, world, unprotected, row_at, next_row, after_row, after_instr, after_one, after, Reaches, StopsBy, CodeRun, run_at}
+use Rattle.machine_code.specs.Row.{row}
+use Rattle.machine_code.specs.Run.{World, world, unprotected, row_at, next_row, after_row, after_one, after, Reaches, StopsBy, CodeRun, run_at}
 use Rattle.machine_code.proofs.PassLaws.{reaches_shows}
 use Rattle.machine_code.proofs.RunLaws.{after_by}
 use Rattle.paged_machine.specs.RunOn.{Answers, GoesOn, told_by, done_of}

@@ -1,4 +1,4 @@
-use Rattle.std.proofs.Common.{◌≡◌, ◌+◌, ◌≤◌, ℕ}
+use Rattle.std.proofs.Common.{◌≡◌, ◌+◌, ℕ}
 use Rattle.paged_machine.proofs.RunOnLaws.{Holds}
 use Rattle.paged_machine.proofs.ToGo.{to_go}
 use Rattle.paged_machine.proofs.machine.Machine.run_for.Given as goal
