@@ -1,5 +1,5 @@
 -- How much of the output the images of a store need.
-use Rattle.std.proofs.Common.{◌≡◌, ◌≢◌, refl, sym, ◌∙◌, ap, subst, ℕ, ◌+◌, ◌-◌, ◌<◌, ◌≤◌, inl, inr, ⊎_elim, List, [], ◌∷◌, ◌++◌, length, take, Option, Some, None, Ok, arith}
+use Rattle.std.proofs.Common.{◌≡◌, ◌≢◌, sym, ◌∙◌, ap, subst, ℕ, ◌+◌, ◌-◌, ◌≤◌, inl, inr, ⊎_elim, List, ◌++◌, length, Option, Some, None, Ok, arith}
 use Rattle.std.proofs.lemmas.List.{length-append, take-take, take-append-le}
 use Rattle.ckpt_base.specs.Run.{Run, output}
 use Rattle.c_tree.specs.declared.resolved.Resolved.{Resolved}
@@ -13,15 +13,16 @@ use Rattle.image_format.specs.declared.header.Header.{Header}
 use Rattle.image_format.specs.Image.{Image}
 use Rattle.image_chain.specs.Append.{other}
 use Rattle.image_chain.specs.Records.{Found, chain_in, newest_of}
-use Rattle.machine_code.specs.Run.{World, next_row, unprotected}
+use Rattle.machine_code.specs.Run.{next_row, unprotected}
 use Rattle.code_maker.specs.ProgramCode.{code_of}
 use Rattle.code_maker.specs.CodeMeaning.{world_at, MeansGraphs}
 use Rattle.run_images.specs.Source.{Source, IsSource, run_of, output_of}
-use Rattle.run_images.specs.Stands.{IsOpenIn, FileLists, Stands, StandsFor, StandsWithin, StandWith}
-use Rattle.run_images.specs.Changes.{IsFoundIn}
+use Rattle.run_images.specs.Stands.{FileLists, Stands, StandsFor, StandsWithin, StandWith}
+use Rattle.run_images.proofs.Outcomes.{IsFoundIn}
 use Rattle.run_images.specs.Asked.{Asked}
 use Rattle.run_images.proofs.StandLaws.{kept_stands}
-use Rattle.run_images.proofs.StepLaws.{found_there, parts_of, none_open_in, this_or_other, same_lists, other_not, front_length}
+use Rattle.run_images.proofs.FoundLaws.{found_there, this_or_other, same_lists, other_not}
+use Rattle.run_images.proofs.OutputLaws.{front_length}
 use Rattle.run_images.proofs.CodeRuns.{RunLaws, stops_by, run_stopped}
 use Rattle.run_images.proofs.AlikeLaws.{source_run, output_is}
 use Rattle.run_images.proofs.LifeLaws.{output_both}
@@ -42,10 +43,6 @@ still_stand s every n m bytes more rs le fits (inr a) =
     })
 
 -- ---- what a store needs that stands
-
--- a store without a chain needs none of the output
-pub none_needed : (s : Source) (n : ℕ) (c : Store) → Stands s c → chain_in c ≡ Ok None → StandsWithin s n c
-none_needed s n c stands is = record { stands = stands; within = λ f h rs x image lists newest. absurd (none_open_in c f h image (parts_of c None is) lists.open_in) }
 
 module _ (laws : RunLaws) (means : (p : Resolved) → IsChecked p → MeansGraphs p (code_of p)) (s : Source) (is : IsSource s) where
   -- a longer run has written no less

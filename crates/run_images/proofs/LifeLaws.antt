@@ -1,18 +1,18 @@
 -- What a life shows is what its source's run shows, and the images that it takes stand.
-use Rattle.std.proofs.Common.{◌≡◌, refl, sym, ◌∙◌, ap, subst, ℕ, ◌+◌, ◌-◌, ◌<◌, ◌≤◌, ◌==◌, ◌||◌, Bool, true, false, cond, ⊎_elim, List, [], ◌∷◌, ◌++◌, length, take, Some, None, append_assoc, append-nil, arith}
+use Rattle.std.proofs.Common.{◌≡◌, refl, sym, ◌∙◌, ap, subst, ℕ, ◌+◌, ◌==◌, ◌||◌, Bool, true, false, cond, ⊎_elim, List, [], ◌∷◌, ◌++◌, length, take, Some, None, append_assoc, append-nil, arith}
 use Rattle.std.specs.Prelude.{slice_index}
-use Rattle.std.specs.List.{list_any, Contains}
+use Rattle.std.specs.List.{Contains}
 use Rattle.std.proofs.lemmas.List.{take_all}
 use Rattle.std.proofs.lemmas.List.Elements.{Contains-append_cases}
 use Rattle.ckpt_base.specs.Event.{Event, Wrote, Byte, Took, Excluded, Checkpoint}
-use Rattle.ckpt_base.specs.Run.{Run, output}
+use Rattle.ckpt_base.specs.Run.{output}
 use Rattle.path_laws.specs.Forgettable.{IsForgettable}
 use Rattle.image_format.specs.declared.fields.Fields.{Fields}
 use Rattle.image_format.specs.Image.{Image}
 use Rattle.machine_code.specs.Run.{World}
 use Rattle.machine_code.specs.Shown.{wrote}
 use Rattle.run_images.specs.Since.{Since, at_first, is_due, with_event, is_fresh, since_after}
-use Rattle.run_images.specs.Images.{Taking, TakenImage, taken_at, taken_with, images, images_from}
+use Rattle.run_images.specs.Images.{Taking, TakenImage, taken_at, images, images_from}
 use Rattle.run_images.specs.JoinedList.{IsOf, IsJoinedList}
 use Rattle.run_images.specs.Source.{Source, IsSource, run_of, output_of, taking_of, images_of}
 use Rattle.run_images.specs.Hold.{HoldWords, HoldUnwritten, IsTakenAt}

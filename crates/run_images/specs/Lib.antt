@@ -12,8 +12,6 @@ pub mod Hold
 pub mod Stands
 -- how far the newest image of a store is
 pub mod Later
--- what one call changes in a store, and what finding a chain says of it
-pub mod Changes
 -- what excluded sets promise of the events of a run
 pub mod Spared
 -- what a life takes from a compiled program

@@ -5,9 +5,10 @@ ghost use Rattle.std.specs.List.{Contains};
 ghost use Rattle.ckpt_base.specs.Event.{Event, Checkpoint};
 ghost use Rattle.image_format.specs.Image.{Image};
 ghost use Rattle.machine_code.specs.Shown.{wrote};
+ghost use Rattle.coalesce.specs.Join.{Joins};
 ghost use Rattle.run_images.specs.Since.{Since, is_due, since_after};
 ghost use Rattle.run_images.specs.Images.{Taking, TakenImage, images_from, since_behind};
-ghost use Rattle.run_images.specs.JoinedList.{IsOf, IsJoinedList, JoinsRecords};
+ghost use Rattle.run_images.specs.JoinedList.{IsOf, IsJoinedList};
 ghost use Rattle.run_images.specs.Source.{Source, IsSource};
 ghost use Rattle.run_images.specs.Hold.{HoldWords, HoldUnwritten, IsTakenAt};
 ghost use Rattle.run_images.specs.Asked.{RunsAreSpared};
@@ -31,7 +32,7 @@ pub fn joined_lists_grow()
 
 /// The one record that joins records is a joined list of the same images.
 pub fn joined_lists_join()
-    ensures law { (rs : List Image) (r : Image) (taken : List TakenImage) → IsJoinedList rs taken → JoinsRecords rs r → IsJoinedList (r ∷ []) taken }
+    ensures law { (rs : List Image) (r : Image) (taken : List TakenImage) → IsJoinedList rs taken → Joins rs r → IsJoinedList (r ∷ []) taken }
 {}
 
 /// Right behind an image of the source's run the records, the new one among them, give each cell that is not forgettable there its word.
