@@ -19,11 +19,10 @@ use Rattle.code_maker.specs.CodeMeaning.{world_at, MeansGraphs}
 use Rattle.run_images.specs.Source.{Source, IsSource, run_of, output_of}
 use Rattle.run_images.specs.Stands.{FileLists, Stands, StandsFor, StandsWithin, StandWith}
 use Rattle.run_images.proofs.Outcomes.{IsFoundIn}
-use Rattle.run_images.specs.Asked.{Asked}
 use Rattle.run_images.proofs.StandLaws.{kept_stands}
 use Rattle.run_images.proofs.FoundLaws.{found_there, this_or_other, same_lists, other_not}
 use Rattle.run_images.proofs.OutputLaws.{front_length}
-use Rattle.run_images.proofs.CodeRuns.{RunLaws, stops_by, run_stopped}
+use Rattle.run_images.proofs.CodeRuns.{RunLaws, CodeLaws, stops_by, run_stopped}
 use Rattle.run_images.proofs.AlikeLaws.{source_run, output_is}
 use Rattle.run_images.proofs.LifeLaws.{output_both}
 
@@ -60,8 +59,8 @@ module _ (laws : RunLaws) (means : (p : Resolved) → IsChecked p → MeansGraph
       let then' : output_of s u ≡ output v.events ++ output more.more = ap output more.events ∙ output_both v.events more.more in
       omega (arith, ap length now, ap length then', length-append (output v.events) (output more.more))
 
-  pub some_needed : (asked : Asked) (c : Store) (found : Found) (f : Fields) → Stands s c → chain_in c ≡ Ok (Some found) → newest_of None found.records ≡ Some f → StandsWithin s f.output_length c
-  some_needed asked c found f stands chain newest = record { stands = stands; within = λ g h rs x image lists here. each g h rs x image lists here }
+  pub some_needed : (codes : CodeLaws) (c : Store) (found : Found) (f : Fields) → Stands s c → chain_in c ≡ Ok (Some found) → newest_of None found.records ≡ Some f → StandsWithin s f.output_length c
+  some_needed codes c found f stands chain newest = record { stands = stands; within = λ g h rs x image lists here. each g h rs x image lists here }
     where
       it : IsFoundIn c found
       it = found_there c found chain
@@ -76,7 +75,7 @@ module _ (laws : RunLaws) (means : (p : Resolved) → IsChecked p → MeansGraph
       newest_is = same_field (newest_of None found.records) stand.newest f stand.newest_is newest
 
       needed : f.output_length ≡ length (output_of s f.steps)
-      needed = subst (λ (y : Fields). y.output_length ≡ length (output_of s y.steps)) newest_is (output_is laws s is (code_of s.program) (means s.program is.checked) asked found.header.every found.records c.output stand)
+      needed = subst (λ (y : Fields). y.output_length ≡ length (output_of s y.steps)) newest_is (output_is laws s is (code_of s.program) (means s.program is.checked) codes found.header.every found.records c.output stand)
 
       enough : (x : Fields) → x.steps ≤ f.steps → length (output_of s x.steps) ≤ f.output_length
       enough x le = omega (arith, output_rises x.steps f.steps le, needed)

@@ -19,12 +19,11 @@ use Rattle.run_images.specs.Hold.{HoldWords, HoldUnwritten, IsTakenAt}
 use Rattle.run_images.specs.Stands.{StandsFor}
 use Rattle.run_images.specs.Origin.{Origin, IsAsSource, events_before, IsOfSource}
 use Rattle.run_images.specs.Shown.{HasShown, TakesImage, HasTaken}
-use Rattle.run_images.specs.Asked.{RunsAreSpared}
 use Rattle.run_images.proofs.ImageLaws.{since_more, images_more, taken_due}
 use Rattle.run_images.proofs.JoinLaws.{joined_grow}
 use Rattle.run_images.proofs.AppendLaws.{newest_more}
 use Rattle.run_images.proofs.FactLaws.{has_cell, or_both, none_written, not_first}
-use Rattle.run_images.proofs.HoldLaws.{taken_holds}
+use Rattle.run_images.proofs.HoldLaws.{RunsAreSpared, taken_holds}
 
 pub output_both : (xs ys : List Event) → output (xs ++ ys) ≡ output xs ++ output ys
 output_both [] ys = refl

@@ -11,7 +11,8 @@ ghost use Rattle.run_images.specs.Images.{Taking, TakenImage, images_from, since
 ghost use Rattle.run_images.specs.JoinedList.{IsOf, IsJoinedList};
 ghost use Rattle.run_images.specs.Source.{Source, IsSource};
 ghost use Rattle.run_images.specs.Hold.{HoldWords, HoldUnwritten, IsTakenAt};
-ghost use Rattle.run_images.specs.Asked.{RunsAreSpared};
+
+use flow_graph::runs_spare_excluded_cells;
 
 /// The images of a run are those of its first events, and then those of the others from there.
 pub fn images_go_on()
@@ -37,8 +38,10 @@ pub fn joined_lists_join()
 
 /// Right behind an image of the source's run the records, the new one among them, give each cell that is not forgettable there its word.
 pub fn taken_images_hold()
-    ensures law { (s : Source) (every node t : ℕ) (es : List Event) (rs : List Image) (r : Image) (m : List ℕ) → RunsAreSpared → IsSource s → IsTakenAt s every node t es rs r m → HoldWords s node (rs ++ r ∷ []) m }
-{}
+    ensures law { (s : Source) (every node t : ℕ) (es : List Event) (rs : List Image) (r : Image) (m : List ℕ) → IsSource s → IsTakenAt s every node t es rs r m → HoldWords s node (rs ++ r ∷ []) m }
+{
+    runs_spare_excluded_cells();
+}
 
 /// Between two images the records go on to give each cell that was not written its word.
 pub fn unwritten_words_stay()

@@ -13,9 +13,11 @@ ghost use Rattle.output_file.specs.OnDisk.{IsBehind};
 ghost use Rattle.run_images.specs.Source.{Source, IsSource};
 ghost use Rattle.run_images.specs.Stands.{Stands, StandsFor, StandsWithin, StandWith, ChainStands};
 ghost use Rattle.run_images.specs.Later.{IsLater};
-ghost use Rattle.run_images.specs.Asked.{Asked};
 
-use code_maker::codes_mean_their_graphs;
+use code_maker::{
+    checkpoints_end_ticks, codes_keep_pointers, codes_mean_their_graphs, codes_run_alike,
+    codes_stand_behind,
+};
 use flow_graph::graphs_mean_their_programs;
 use machine_code::{runs_give_one_answer, runs_pass_what_they_reach, runs_show_what_they_do};
 
@@ -34,13 +36,17 @@ pub fn kept_chains_stand()
 
 /// A standing store needs no more of the output than its newest image says.
 pub fn newest_images_need_most()
-    ensures law { (s : Source) (c : Store) (found : Found) (newest : Fields) → Asked → IsSource s → Stands s c → chain_in c ≡ Ok (Some found)
+    ensures law { (s : Source) (c : Store) (found : Found) (newest : Fields) → IsSource s → Stands s c → chain_in c ≡ Ok (Some found)
         → newest_of None found.records ≡ Some newest → StandsWithin s newest.output_length c }
 {
     runs_give_one_answer();
     runs_show_what_they_do();
     runs_pass_what_they_reach();
     graphs_mean_their_programs();
+    codes_run_alike();
+    codes_keep_pointers();
+    checkpoints_end_ticks();
+    codes_stand_behind();
     codes_mean_their_graphs();
 }
 
