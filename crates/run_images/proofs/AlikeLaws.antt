@@ -25,8 +25,9 @@ use Rattle.machine_code.specs.State.{standing}
 use Rattle.machine_code.specs.Valid.{has_checkpoint}
 use Rattle.machine_code.specs.Run.{World, world, Reaches, CodeRun}
 use Rattle.machine_code.specs.Shown.{taken, MarksWithin}
-use Rattle.code_maker.specs.CodeMeaning.{IsOutside, world_at, MeansGraphs}
-use Rattle.code_maker.specs.Resumed.{IsCheckpointTo, AreResumed}
+use Rattle.code_maker.specs.CheckpointPlaces.{IsCheckpointTo}
+use Rattle.code_maker.specs.CodeMeaning.{IsOutside, world_at, PassedLast, MeansGraphs}
+use Rattle.code_maker.specs.Resumed.{AreResumed, state_behind}
 use Rattle.run_images.specs.Since.{Since, at_first, with_event, since_after}
 use Rattle.run_images.specs.Images.{Taking, TakenImage, taken_at, images, since_behind}
 use Rattle.run_images.specs.JoinedList.{IsJoinedList}
@@ -34,12 +35,11 @@ use Rattle.run_images.specs.Source.{Source, IsSource, run_of, output_of, taking_
 use Rattle.run_images.specs.Stands.{StandsFor}
 use Rattle.run_images.specs.Compiled.{CompiledView, IsCompiled, cells_in}
 use Rattle.run_images.specs.Origin.{Origin, origin_world, begun_at, IsResumedAt, IsAsSource, events_before, IsOfSource}
-use Rattle.run_images.specs.Asked.{PassedLast, state_behind, Asked}
 use Rattle.run_images.proofs.ImageLaws.{since_more, noted_due, same_last}
 use Rattle.run_images.proofs.JoinLaws.{Newest, joined_newest}
 use Rattle.run_images.proofs.FactLaws.{Past, all_facts}
 use Rattle.run_images.proofs.SinceLaws.{input_counted, output_counted}
-use Rattle.run_images.proofs.CodeRuns.{RunLaws, Stopped, run_stopped, mark_within, stops_in, nothing_at_first}
+use Rattle.run_images.proofs.CodeRuns.{RunLaws, CodeLaws, Stopped, run_stopped, mark_within, stops_in, nothing_at_first}
 
 -- ---- the program's cells
 
@@ -89,7 +89,7 @@ module _ (laws : RunLaws) (s : Source) (is : IsSource s) (code : CodeView) (mean
   nothing : (run_of s 0).events ≡ []
   nothing = nothing_at_first laws p s.input
 
-  module _ (asked : Asked) where
+  module _ (codes : CodeLaws) where
     -- ---- behind the checkpoint of the newest record
 
     module _ (every : ℕ) (rs : List Image) (file : List ℕ) (stands : StandsFor s every rs file) where
@@ -136,7 +136,7 @@ module _ (laws : RunLaws) (s : Source) (is : IsSource s) (code : CodeView) (mean
           omega (arith, marks.1, stopped.high)
 
       none_behind : past.behind ≡ []
-      none_behind = asked.ends p code 0 T f.node first G past.before past.behind is.checked means (inl refl) outside_first (source_run T) (split ∙ ap (λ t. past.before ++ Checkpoint f.node t ∷ past.behind) (sym ticks_are))
+      none_behind = codes.ends p code 0 T f.node first G past.before past.behind is.checked means (inl refl) outside_first (source_run T) (split ∙ ap (λ t. past.before ++ Checkpoint f.node t ∷ past.behind) (sym ticks_are))
 
       -- the run has just passed it
       passes : G.events ≡ past.before ++ Checkpoint f.node T ∷ []
@@ -169,7 +169,7 @@ module _ (laws : RunLaws) (s : Source) (is : IsSource s) (code : CodeView) (mean
       Place = (q : ℕ) × (next : ℕ) × IsCheckpointTo p f.node next × (has_checkpoint code f.node q ≡ true) × (length G.memory ≡ cell_count p) × Reaches code (world_at 0 first) (world_at q behind)
 
       there : Place
-      there = asked.behind p code s.input T f.node G is.checked means (source_run T) passed
+      there = codes.behind p code s.input T f.node G is.checked means (source_run T) passed
 
       abbrev next : ℕ
       next = there.1
@@ -210,7 +210,7 @@ module _ (laws : RunLaws) (s : Source) (is : IsSource s) (code : CodeView) (mean
           outside = outside_behind;
           alike = record { rest = refl; objects = refl; size = size; same_size = long; words = same_words };
           pointers = record {
-            cells = λ k wanted pointer. asked.pointers p s.graph code s.input T f.node G is.checked is.graph means (source_run T) passed next k to wanted pointer;
+            cells = λ k wanted pointer. codes.pointers p s.graph code s.input T f.node G is.checked is.graph means (source_run T) passed next k to wanted pointer;
             locals = tt;
           };
         }
@@ -220,7 +220,7 @@ module _ (laws : RunLaws) (s : Source) (is : IsSource s) (code : CodeView) (mean
         from_place n = subst (CodeRun code (world_at q behind) n) (sym (goes_on n)) (means.from_checkpoint f.node q next behind n outside_behind to.does to.edge listed)
 
         own_alike : (n : ℕ) (r : Run) → CodeRun code (world_at q own) n r → EndAlike (run_of s (T + n)) r
-        own_alike n r run = asked.alike p s.graph code f.node q next behind own n (run_of s (T + n)) r is.checked is.graph means to listed resumed (from_place n) run
+        own_alike n r run = codes.alike p s.graph code f.node q next behind own n (run_of s (T + n)) r is.checked is.graph means to listed resumed (from_place n) run
 
         own_passes : (w : World) (node : ℕ) (more : List Event) → Reaches code (world_at q own) w → w.events ≡ G.events ++ (more ++ Checkpoint node w.state.ticks ∷ []) → IsAsSource s node w
         own_passes w node more reaches events =
@@ -230,11 +230,11 @@ module _ (laws : RunLaws) (s : Source) (is : IsSource s) (code : CodeView) (mean
             let bound : own.ticks + n ≡ w.state.ticks = omega (arith, at, ticks_are) in
             let mine : Run = graph_run (graphs_of p) (spot None next []) own n in
             let run : CodeRun code (world_at q own) n mine = means.from_checkpoint f.node q next own n outside_own to.does to.edge listed in
-            let stops = stops_in laws asked.ends p code q own w node n more mine is.checked means (inr (f.node, next, to, listed)) outside_own reaches events bound run in
+            let stops = stops_in laws codes.ends p code q own w node n more mine is.checked means (inr (f.node, next, to, listed)) outside_own reaches events bound run in
             let alike = own_alike n mine run in
             let same : (run_of s (T + n)).events ≡ w.events = alike.events ∙ stops.events in
             let passed_w : PassedLast behind node (run_of s (T + n)) = record { more = more; events = same ∙ events ∙ ap (λ t. G.events ++ (more ++ Checkpoint node t ∷ [])) (sym (alike.ticks ∙ stops.ticks)) } in
-            let agree = asked.agree p s.graph code f.node q next behind own n node (run_of s (T + n)) mine is.checked is.graph means to listed resumed (from_place n) run passed_w in
+            let agree = codes.agree p s.graph code f.node q next behind own n node (run_of s (T + n)) mine is.checked is.graph means to listed resumed (from_place n) run passed_w in
             record {
               events = ap (λ k. (run_of s k).events) (sym at) ∙ same;
               words = λ k kept. ap (λ j. slice_index (run_of s j).memory k) (sym at) ∙ agree.words k kept ∙ stops.words k;
@@ -242,12 +242,12 @@ module _ (laws : RunLaws) (s : Source) (is : IsSource s) (code : CodeView) (mean
 
 -- ---- the two origins
 
-pub begun_is_of_source : RunLaws → Asked → (s : Source) (c : CompiledView) (every : ℕ) → IsSource s → IsCompiled s c → IsOfSource s (begun_at c s.marks every s.input)
-begun_is_of_source laws asked s c every is compiled = record {
+pub begun_is_of_source : RunLaws → CodeLaws → (s : Source) (c : CompiledView) (every : ℕ) → IsSource s → IsCompiled s c → IsOfSource s (begun_at c s.marks every s.input)
+begun_is_of_source laws codes s c every is compiled = record {
   like = record {
     alike = λ n r run. subst (λ k. EndAlike (run_of s k) r) (sym (from_zero n)) (subst (EndAlike (run_of s n)) (laws.one c.code (world_at 0 start) n (run_of s n) r (runs n) (subst (λ w. CodeRun c.code w n r) world_is run)) (record { events = refl; ending = refl; ticks = refl }));
     passes = λ w node more reaches events.
-        let stops = stops_in laws asked.ends s.program c.code 0 start w node w.state.ticks more (run_of s w.state.ticks) is.checked compiled.code (inl refl) outside (subst (λ v. Reaches c.code v w) world_is reaches) (events ∙ ap (λ l. l ++ (more ++ Checkpoint node w.state.ticks ∷ [])) none) (from_zero w.state.ticks) (runs w.state.ticks) in
+        let stops = stops_in laws codes.ends s.program c.code 0 start w node w.state.ticks more (run_of s w.state.ticks) is.checked compiled.code (inl refl) outside (subst (λ v. Reaches c.code v w) world_is reaches) (events ∙ ap (λ l. l ++ (more ++ Checkpoint node w.state.ticks ∷ [])) none) (from_zero w.state.ticks) (runs w.state.ticks) in
         record { events = stops.events; words = λ k kept. stops.words k };
   };
   taking = taking_same s every (cells_in c) c.sets (cells_are s c compiled) compiled.sets;
@@ -274,17 +274,17 @@ begun_is_of_source laws asked s c every is compiled = record {
     world_is : origin_world (begun_at c s.marks every s.input) (run_of s 0).events ≡ world_at 0 start
     world_is = world_same (standing 0 0) (standing 0 0) c.words (first_words s.program) s.input s.input (run_of s 0).events [] refl compiled.words refl none
 
-pub resumed_is_of_source : RunLaws → Asked → (s : Source) (c : CompiledView) (every fill : ℕ) (rs : List Image) (file : List ℕ) (o : Origin) → IsSource s → IsCompiled s c → StandsFor s every rs file
+pub resumed_is_of_source : RunLaws → CodeLaws → (s : Source) (c : CompiledView) (every fill : ℕ) (rs : List Image) (file : List ℕ) (o : Origin) → IsSource s → IsCompiled s c → StandsFor s every rs file
     → IsResumedAt c s.marks every fill s.input rs file o → IsOfSource s o
-resumed_is_of_source laws asked s c every fill rs file o is compiled stands at = record {
+resumed_is_of_source laws codes s c every fill rs file o is compiled stands at = record {
   like = record {
     alike = λ n r run. subst (λ t. EndAlike (run_of s (t + n)) r) (sym ticks_is) (goes n r (subst (λ w. CodeRun c.code w n r) world_is (subst (λ x. CodeRun x (origin_world o (events_before s o)) n r) at.code run)));
     passes = λ w node more reaches events. passes_on w node more (subst (λ v. Reaches c.code v w) world_is (subst (λ x. Reaches x (origin_world o (events_before s o)) w) at.code reaches)) (events ∙ ap (λ t. (run_of s t).events ++ (more ++ Checkpoint node w.state.ticks ∷ [])) ticks_is);
   };
   taking = at.taking ∙ taking_same s every (cells_in c) c.sets (cells_are s c compiled) compiled.sets ∙ ap (taking_of s) (sym every_is);
-  since = at.since ∙ ap since_behind same ∙ sym (since_is laws s is c.code compiled.code asked every rs file stands)
+  since = at.since ∙ ap since_behind same ∙ sym (since_is laws s is c.code compiled.code codes every rs file stands)
       ∙ ap (λ e. since_after e (run_of s stands.newest.steps).events at_first) (sym every_is) ∙ ap (λ t. since_after o.taking.every (run_of s t).events at_first) (sym ticks_is);
-  output = at.output ∙ ap (λ (x : Fields). take x.output_length file) same ∙ ap (λ n. take n file) (output_is laws s is c.code compiled.code asked every rs file stands) ∙ stands.begins ∙ ap (output_of s) (sym ticks_is);
+  output = at.output ∙ ap (λ (x : Fields). take x.output_length file) same ∙ ap (λ n. take n file) (output_is laws s is c.code compiled.code codes every rs file stands) ∙ stands.begins ∙ ap (output_of s) (sym ticks_is);
   records = subst (λ l. IsJoinedList l (images_of s o.taking.every o.state.ticks)) (sym at.records) (subst (λ t. IsJoinedList rs (images_of s o.taking.every t)) (sym ticks_is) (subst (λ e. IsJoinedList rs (images_of s e stands.newest.steps)) (sym every_is) stands.joined));
 }
   where
@@ -312,16 +312,16 @@ resumed_is_of_source laws asked s c every fill rs file o is compiled stands at =
     words : (k : ℕ) → k < cell_count s.program → slice_index o.memory k ≡ unwrap_or (memory rs k) (fill_word fill)
     words k lt = at.words k (subst (λ n. k < n) (sym (cells_are s c compiled)) lt)
 
-    goes : (n : ℕ) (r : Run) → CodeRun c.code (world_at place (own laws s is c.code compiled.code asked every rs file stands place fill o.memory listed long words)) n r → EndAlike (run_of s (stands.newest.steps + n)) r
-    goes = own_alike laws s is c.code compiled.code asked every rs file stands place fill o.memory listed long words
+    goes : (n : ℕ) (r : Run) → CodeRun c.code (world_at place (own laws s is c.code compiled.code codes every rs file stands place fill o.memory listed long words)) n r → EndAlike (run_of s (stands.newest.steps + n)) r
+    goes = own_alike laws s is c.code compiled.code codes every rs file stands place fill o.memory listed long words
 
-    passes_on : (w : World) (node : ℕ) (more : List Event) → Reaches c.code (world_at place (own laws s is c.code compiled.code asked every rs file stands place fill o.memory listed long words)) w
+    passes_on : (w : World) (node : ℕ) (more : List Event) → Reaches c.code (world_at place (own laws s is c.code compiled.code codes every rs file stands place fill o.memory listed long words)) w
         → w.events ≡ (run_of s stands.newest.steps).events ++ (more ++ Checkpoint node w.state.ticks ∷ []) → IsAsSource s node w
-    passes_on = own_passes laws s is c.code compiled.code asked every rs file stands place fill o.memory listed long words
+    passes_on = own_passes laws s is c.code compiled.code codes every rs file stands place fill o.memory listed long words
 
-    world_is : origin_world o (events_before s o) ≡ world_at place (own laws s is c.code compiled.code asked every rs file stands place fill o.memory listed long words)
+    world_is : origin_world o (events_before s o) ≡ world_at place (own laws s is c.code compiled.code codes every rs file stands place fill o.memory listed long words)
     world_is =
         let run = run_of s stands.newest.steps in
         world_same o.state (standing place run.ticks) o.memory o.memory o.input (drop (taken run.events) s.input) (events_before s o) run.events
-        (state_is ∙ ap (standing place) (sym (ticks_are laws s is c.code compiled.code asked every rs file stands))) refl
-        (at.input ∙ ap (λ (x : Fields). drop x.input_place s.input) same ∙ ap (λ n. drop n s.input) (input_is laws s is c.code compiled.code asked every rs file stands)) (ap (λ t. (run_of s t).events) ticks_is)
+        (state_is ∙ ap (standing place) (sym (ticks_are laws s is c.code compiled.code codes every rs file stands))) refl
+        (at.input ∙ ap (λ (x : Fields). drop x.input_place s.input) same ∙ ap (λ n. drop n s.input) (input_is laws s is c.code compiled.code codes every rs file stands)) (ap (λ t. (run_of s t).events) ticks_is)

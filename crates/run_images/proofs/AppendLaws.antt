@@ -13,8 +13,9 @@ use Rattle.image_chain.specs.Lists.{found_of}
 use Rattle.image_chain.specs.Records.{broken_field, newest_of, chain_in}
 use Rattle.run_images.specs.Source.{Source}
 use Rattle.run_images.specs.Stands.{StandsWithin, StandWith}
-use Rattle.run_images.specs.Changes.{IsListedIn, NoneAhead}
-use Rattle.run_images.proofs.StepLaws.{found_there, parts_of, none_open_in, other_not, listed_stand}
+use Rattle.run_images.proofs.Outcomes.{IsListedIn, NoneAhead}
+use Rattle.run_images.proofs.FoundLaws.{found_there, parts_of, none_open_in, other_not}
+use Rattle.run_images.proofs.ListedLaws.{listed_stand}
 
 none_some : (x : Fields) → None ≡ Some x → ⊥
 none_some x e = cc
@@ -65,7 +66,7 @@ pub newest_some : (f : Fields) (rs : List Image) → (x : Fields) × (newest_of 
 newest_some f [] = (f, refl)
 newest_some f (r ∷ rs) = newest_some r.fields rs
 
-none_ahead : (s : Source) (n : ℕ) (f : DiskFile) (h : Header) (rs : List Image) (d : Store) → StandsWithin s n d → chain_in d ≡ Ok (found_of f h rs) → NoneAhead f rs d
+pub none_ahead : (s : Source) (n : ℕ) (f : DiskFile) (h : Header) (rs : List Image) (d : Store) → StandsWithin s n d → chain_in d ≡ Ok (found_of f h rs) → NoneAhead f rs d
 none_ahead s n f h [] d within is k ps x y u p q = absurd (none_some x q)
 none_ahead s n f h (r ∷ rs) d within is k ps x y u p q =
     let it = found_there d (record { file = f; header = h; records = r ∷ rs }) is in

@@ -19,8 +19,8 @@ use Rattle.machine_code.specs.declared.event.Event.TheVariants as answer
 use Rattle.machine_code.specs.CodeView.{CodeView}
 use Rattle.machine_code.specs.Run.{World, Reaches, CodeRun, StopsBy, next_row, unprotected, run_at}
 use Rattle.machine_code.specs.Shown.{wrote, MarksWithin, Shows}
-use Rattle.code_maker.specs.CodeMeaning.{IsOutside, world_at, MeansGraphs}
-use Rattle.run_images.specs.Asked.{IsStart, CheckpointsEndTicks}
+use Rattle.code_maker.specs.CodeMeaning.{IsOutside, world_at, IsStart, MeansGraphs}
+use Rattle.code_maker.specs.Resumed.{CodesRunAlike, CodesAgreeBehind, CodesKeepPointers, CheckpointsEndTicks, CodesStandBehind}
 
 -- the laws of runs of codes and graphs that are used here
 pub record RunLaws : Type 0 where
@@ -28,6 +28,14 @@ pub record RunLaws : Type 0 where
   pub shows : (c : CodeView) (w v : World) → Reaches c w v → Shows w v
   pub passes : (c : CodeView) (w v : World) (n : ℕ) (r : Run) → CodeRun c w n r → Reaches c w v → v.state.ticks ≤ w.state.ticks + n → CodeRun c v ((w.state.ticks + n) - v.state.ticks) r
   pub means : (p : Resolved) (input : List ℕ) (n : ℕ) → meaning p input n ≡ graph_run (graphs_of p) (at_entry (graphs_of p)) (first_state p input) n
+
+-- the laws of codes at checkpoints
+pub record CodeLaws : Type 0 where
+  pub alike : CodesRunAlike
+  pub agree : CodesAgreeBehind
+  pub pointers : CodesKeepPointers
+  pub ends : CheckpointsEndTicks
+  pub behind : CodesStandBehind
 
 -- ---- where a run stops
 

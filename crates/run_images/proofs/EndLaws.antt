@@ -1,7 +1,6 @@
 -- The run of a life ends as its source's: the events before it are never looked at.
-use Rattle.std.proofs.Common.{◌≡◌, refl, sym, ◌∙◌, ap, subst, ℕ, zero, suc, ◌+◌, ◌-◌, ◌≤◌, inl, inr, ◌⊎◌, ⊎_elim, List, [], ◌∷◌, ◌++◌, Option, Some, None, append_assoc, append-nil, arith}
+use Rattle.std.proofs.Common.{◌≡◌, refl, sym, ◌∙◌, ap, subst, ℕ, zero, suc, ◌+◌, ◌≤◌, inl, inr, ◌⊎◌, ⊎_elim, List, [], ◌∷◌, ◌++◌, Option, Some, None, append_assoc, append-nil, arith}
 use Rattle.std.specs.Prelude.{slice_get}
-use Rattle.ckpt_base.specs.declared.ending.Ending.TheVariants as ending
 use Rattle.ckpt_base.specs.Event as run
 use Rattle.ckpt_base.specs.Run.{Run}
 use Rattle.machine_code.specs.declared.instr.Instr.{Instr}
@@ -10,7 +9,7 @@ use Rattle.machine_code.specs.declared.event.Event as machine
 use Rattle.machine_code.specs.declared.event.Event.TheVariants as answer
 use Rattle.machine_code.specs.CodeView.{CodeView}
 use Rattle.machine_code.specs.Row.{Done}
-use Rattle.machine_code.specs.Run.{World, world, unprotected, row_at, next_row, after_row, fed, after_instr, after_one, after, Reaches, StopsBy, CodeRun, run_at}
+use Rattle.machine_code.specs.Run.{World, world, unprotected, row_at, next_row, after_row, fed, after_instr, after_one, after, StopsBy, CodeRun}
 use Rattle.run_images.specs.Source.{Source, run_of}
 use Rattle.run_images.specs.Origin.{Origin, origin_world, ticks_ahead, events_before, IsOfSource}
 use Rattle.run_images.specs.Shown.{EndsAsSource}

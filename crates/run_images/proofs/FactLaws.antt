@@ -5,7 +5,7 @@ use Rattle.std.proofs.lemmas.Bool.Decides.{nat_tests}
 use Rattle.std.proofs.lemmas.List.Elements.{Contains-append_left, Contains-append_right, Contains-append_cases, Contains-push_cases}
 use Rattle.ckpt_base.specs.Event.{Event, Wrote, Byte, Took, Excluded, Checkpoint}
 use Rattle.flow_graph.specs.Agreement.{wrote}
-use Rattle.run_images.specs.Spared.{NoneExcluded}
+use Rattle.flow_graph.specs.Spared.{NoneExcluded}
 use Rattle.run_images.specs.Since.{Since, at_first, is_due, with_event, since_after}
 use Rattle.run_images.specs.Images.{Taking, TakenImage, taken_at, taken_with, images_from, images}
 use Rattle.run_images.proofs.ImageLaws.{since_more, images_more, taken_due}

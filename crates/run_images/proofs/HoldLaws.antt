@@ -5,9 +5,12 @@ use Rattle.std.specs.Option.{option_or}
 use Rattle.std.specs.List.{list_any}
 use Rattle.std.proofs.lemmas.Bool.Decides.{nat_tests}
 use Rattle.ckpt_base.specs.Event.{Event, Excluded, Checkpoint}
+use Rattle.c_tree.specs.declared.resolved.Resolved.{Resolved}
 use Rattle.c_tree.specs.Layout.{cell_count}
+use Rattle.c_tree.specs.Checked.{IsChecked}
+use Rattle.c_tree.specs.Meaning.{meaning}
 use Rattle.cell_sets.specs.Sets.{Cells, has}
-use Rattle.path_laws.specs.Graph.{exclude_count}
+use Rattle.path_laws.specs.Graph.{Graph, exclude_count}
 use Rattle.path_laws.specs.Forgettable.{IsForgettable}
 use Rattle.exclusion_equations.specs.Excluded.{IsDead, IsReadOnly, dead_of, read_only_of}
 use Rattle.image_format.specs.Image.{Image, word_in_runs}
@@ -18,8 +21,8 @@ use Rattle.run_images.specs.Images.{Taking, TakenImage, is_excluded, lists_at, t
 use Rattle.run_images.specs.JoinedList.{lists_cell, IsOf, IsJoinedList}
 use Rattle.run_images.specs.Source.{Source, IsSource, run_of, taking_of}
 use Rattle.run_images.specs.Hold.{HoldWords, HoldUnwritten, IsTakenAt}
-use Rattle.run_images.specs.Spared.{IsSpared}
-use Rattle.run_images.specs.Asked.{RunsAreSpared}
+use Rattle.flow_graph.specs.MainGraph.{IsMainGraph}
+use Rattle.flow_graph.specs.Spared.{IsSpared}
 use Rattle.run_images.proofs.ImageLaws.{same_last}
 use Rattle.run_images.proofs.JoinLaws.{joined_newest}
 use Rattle.run_images.proofs.FactLaws.{has_cell, Past, Facts, all_facts, or_both, or_one}
@@ -99,7 +102,7 @@ module _ (s : Source) (is : IsSource s) (every node t : ℕ) (es : List Event) (
         let k = S.directive in
         let within : k ≤ exclude_count s.graph = (let h = among s.sets.dead (k - 1) c holds in let e = is.sets.dead_len in omega (arith, h, e)) in
         let dead : IsDead s.graph k c = ((is.sets.dead k (let z = zero_least k some in z) within).exact c lt_cells).0 holds in
-        kept ((spared c lt).dead k node t u.before u.behind [] (split_at u.before u.behind (Excluded k) u.split) u.none dead)
+        kept ((spared c lt).dead k node t u.behind (u.before, [], split_at u.before u.behind (Excluded k) u.split) u.none dead)
       where
         zero_least : (k : ℕ) → (k ≡ 0 → ⊥) → 1 ≤ k
         zero_least zero h = absurd (h refl)
@@ -111,7 +114,7 @@ module _ (s : Source) (is : IsSource s) (every node t : ℕ) (es : List Event) (
         let k = S.directive in
         let within : k ≤ exclude_count s.graph = (let h = among s.sets.read_only (k - 1) c holds in let e = is.sets.read_only_len in omega (arith, h, e)) in
         let only : IsReadOnly s.graph k c = ((is.sets.read_only k (zero_least k some) within).exact c lt_cells).0 holds in
-        let never = (spared c lt).read_only k node t u.before u.behind [] (split_at u.before u.behind (Excluded k) u.split) u.none only in
+        let never = (spared c lt).read_only k node t u.behind (u.before, [], split_at u.before u.behind (Excluded k) u.split) u.none only in
         (facts.included included, by_written (has_cell S.written c) refl (λ e. never (u.within included c e)))
       where
         zero_least : (k : ℕ) → (k ≡ 0 → ⊥) → 1 ≤ k
@@ -155,7 +158,7 @@ module _ (s : Source) (is : IsSource s) (every node t : ℕ) (es : List Event) (
           fresh = ap (λ (b : Bool). b || has_cell S.written c) (zero_not S.number h.0) ∙ h.1
 
           stays : IsForgettable s.graph c past.image.fields.node → ⊥
-          stays forgets = kept ((spared c lt).stays past.image.fields.node past.tick node t past.before past.behind [] (split_at past.before past.behind (Checkpoint past.image.fields.node past.tick) past.split) forgets (past.spared c h.1))
+          stays forgets = kept ((spared c lt).stays past.image.fields.node past.tick node t past.behind (past.before, [], split_at past.before past.behind (Checkpoint past.image.fields.node past.tick) past.split) (past.spared c h.1) forgets)
 
           none_image : (x : TakenImage) (xs : List TakenImage) → xs ++ x ∷ [] ≡ [] → ⊥
           none_image x [] e = cc
@@ -174,6 +177,10 @@ module _ (s : Source) (is : IsSource s) (every node t : ℕ) (es : List Event) (
           by_listed : (b : Bool) → lists_cell r c ≡ b → memory (rs ++ r ∷ []) c ≡ Some (slice_index m c)
           by_listed true e = memory_more rs r c ∙ ap (λ o. option_or o (memory rs c)) (words c e)
           by_listed false e = memory_more rs r c ∙ ap (λ o. option_or o (memory rs c)) (none_of (word_in_runs r.runs c) e) ∙ old_word (not_listed (sym (of.lists c) ∙ e))
+
+-- each run keeps what the excluded sets promise of it
+abbrev pub RunsAreSpared : Type 0
+RunsAreSpared = (p : Resolved) (g : Graph) (input : List ℕ) (n c : ℕ) → IsChecked p → IsMainGraph p g → c < cell_count p → IsSpared g (meaning p input n).events c
 
 pub taken_holds : (s : Source) (every node t : ℕ) (es : List Event) (rs : List Image) (r : Image) (m : List ℕ) → RunsAreSpared → IsSource s → IsTakenAt s every node t es rs r m → HoldWords s node (rs ++ r ∷ []) m
 taken_holds s every node t es rs r m spared is taken c lt kept =

@@ -7,8 +7,9 @@ use Rattle.image_format.specs.declared.fields.Fields.{Fields}
 use Rattle.image_format.specs.Image.{Image, word_in_runs}
 use Rattle.image_chain.specs.Records.{newest_of}
 use Rattle.image_chain.specs.Memory.{memory}
+use Rattle.coalesce.specs.Join.{Joins}
 use Rattle.run_images.specs.Images.{TakenImage}
-use Rattle.run_images.specs.JoinedList.{IsOf, AreOf, AreJoined, IsJoinedList, JoinsRecords}
+use Rattle.run_images.specs.JoinedList.{IsOf, AreOf, AreJoined, IsJoinedList}
 
 of_more : (rs : List Image) (is : List TakenImage) (r : Image) (i : TakenImage) → AreOf rs is → IsOf r i → AreOf (rs ++ r ∷ []) (is ++ i ∷ [])
 of_more [] [] r i all one = (one, tt)
@@ -82,8 +83,8 @@ same_some e = cc
 none_some : {X : Type 0} {a : X} → None ≡ Some a → ⊥
 none_some e = cc
 
-pub joined_joins : (rs : List Image) (r : Image) (is : List TakenImage) → IsJoinedList rs is → JoinsRecords rs r → IsJoinedList (r ∷ []) is
-joined_joins [] r is all j = absurd (none_some j.newest)
+pub joined_joins : (rs : List Image) (r : Image) (is : List TakenImage) → IsJoinedList rs is → Joins rs r → IsJoinedList (r ∷ []) is
+joined_joins [] r is all j = absurd (none_some j.fields)
 joined_joins (q ∷ rs) r is all j =
     let last = joined_newest q rs is all in
     record {
@@ -91,7 +92,7 @@ joined_joins (q ∷ rs) r is all j =
       image = last.image;
       back = [];
       split = last.split ∙ sym (append-nil (last.front ++ last.image ∷ []));
-      fields = same_some (sym j.newest ∙ last.fields);
+      fields = same_some (sym j.fields ∙ last.fields);
       lists = λ c. ap is_some (j.words c) ∙ joined_lists_all q rs is c all ∙ ap (λ (js : List TakenImage). list_any (λ i. i.lists c) js) last.split;
       others = tt;
     }

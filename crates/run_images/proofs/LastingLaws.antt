@@ -1,5 +1,5 @@
 -- How much of the output the images of a store need.
-use Rattle.std.proofs.Common.{◌≡◌, ◌≢◌, refl, sym, ◌∙◌, ap, subst, ℕ, ◌+◌, ◌-◌, ◌<◌, ◌≤◌, inl, inr, ⊎_elim, List, [], ◌∷◌, ◌++◌, length, take, Option, Some, None, Ok, arith}
+use Rattle.std.proofs.Common.{◌≡◌, ◌≢◌, sym, ◌∙◌, ap, subst, ℕ, ◌+◌, ◌-◌, ◌≤◌, inl, inr, ⊎_elim, List, ◌++◌, length, Option, Some, None, Ok, arith}
 use Rattle.std.proofs.lemmas.List.{length-append, take-take, take-append-le}
 use Rattle.ckpt_base.specs.Run.{Run, output}
 use Rattle.c_tree.specs.declared.resolved.Resolved.{Resolved}
@@ -13,16 +13,16 @@ use Rattle.image_format.specs.declared.header.Header.{Header}
 use Rattle.image_format.specs.Image.{Image}
 use Rattle.image_chain.specs.Append.{other}
 use Rattle.image_chain.specs.Records.{Found, chain_in, newest_of}
-use Rattle.machine_code.specs.Run.{World, next_row, unprotected}
+use Rattle.machine_code.specs.Run.{next_row, unprotected}
 use Rattle.code_maker.specs.ProgramCode.{code_of}
 use Rattle.code_maker.specs.CodeMeaning.{world_at, MeansGraphs}
 use Rattle.run_images.specs.Source.{Source, IsSource, run_of, output_of}
-use Rattle.run_images.specs.Stands.{IsOpenIn, FileLists, Stands, StandsFor, StandsWithin, StandWith}
-use Rattle.run_images.specs.Changes.{IsFoundIn}
-use Rattle.run_images.specs.Asked.{Asked}
+use Rattle.run_images.specs.Stands.{FileLists, Stands, StandsFor, StandsWithin, StandWith}
+use Rattle.run_images.proofs.Outcomes.{IsFoundIn}
 use Rattle.run_images.proofs.StandLaws.{kept_stands}
-use Rattle.run_images.proofs.StepLaws.{found_there, parts_of, none_open_in, this_or_other, same_lists, other_not, front_length}
-use Rattle.run_images.proofs.CodeRuns.{RunLaws, stops_by, run_stopped}
+use Rattle.run_images.proofs.FoundLaws.{found_there, this_or_other, same_lists, other_not}
+use Rattle.run_images.proofs.OutputLaws.{front_length}
+use Rattle.run_images.proofs.CodeRuns.{RunLaws, CodeLaws, stops_by, run_stopped}
 use Rattle.run_images.proofs.AlikeLaws.{source_run, output_is}
 use Rattle.run_images.proofs.LifeLaws.{output_both}
 
@@ -43,10 +43,6 @@ still_stand s every n m bytes more rs le fits (inr a) =
 
 -- ---- what a store needs that stands
 
--- a store without a chain needs none of the output
-pub none_needed : (s : Source) (n : ℕ) (c : Store) → Stands s c → chain_in c ≡ Ok None → StandsWithin s n c
-none_needed s n c stands is = record { stands = stands; within = λ f h rs x image lists newest. absurd (none_open_in c f h image (parts_of c None is) lists.open_in) }
-
 module _ (laws : RunLaws) (means : (p : Resolved) → IsChecked p → MeansGraphs p (code_of p)) (s : Source) (is : IsSource s) where
   -- a longer run has written no less
   output_rises : (t u : ℕ) → t ≤ u → length (output_of s t) ≤ length (output_of s u)
@@ -63,8 +59,8 @@ module _ (laws : RunLaws) (means : (p : Resolved) → IsChecked p → MeansGraph
       let then' : output_of s u ≡ output v.events ++ output more.more = ap output more.events ∙ output_both v.events more.more in
       omega (arith, ap length now, ap length then', length-append (output v.events) (output more.more))
 
-  pub some_needed : (asked : Asked) (c : Store) (found : Found) (f : Fields) → Stands s c → chain_in c ≡ Ok (Some found) → newest_of None found.records ≡ Some f → StandsWithin s f.output_length c
-  some_needed asked c found f stands chain newest = record { stands = stands; within = λ g h rs x image lists here. each g h rs x image lists here }
+  pub some_needed : (codes : CodeLaws) (c : Store) (found : Found) (f : Fields) → Stands s c → chain_in c ≡ Ok (Some found) → newest_of None found.records ≡ Some f → StandsWithin s f.output_length c
+  some_needed codes c found f stands chain newest = record { stands = stands; within = λ g h rs x image lists here. each g h rs x image lists here }
     where
       it : IsFoundIn c found
       it = found_there c found chain
@@ -79,7 +75,7 @@ module _ (laws : RunLaws) (means : (p : Resolved) → IsChecked p → MeansGraph
       newest_is = same_field (newest_of None found.records) stand.newest f stand.newest_is newest
 
       needed : f.output_length ≡ length (output_of s f.steps)
-      needed = subst (λ (y : Fields). y.output_length ≡ length (output_of s y.steps)) newest_is (output_is laws s is (code_of s.program) (means s.program is.checked) asked found.header.every found.records c.output stand)
+      needed = subst (λ (y : Fields). y.output_length ≡ length (output_of s y.steps)) newest_is (output_is laws s is (code_of s.program) (means s.program is.checked) codes found.header.every found.records c.output stand)
 
       enough : (x : Fields) → x.steps ≤ f.steps → length (output_of s x.steps) ≤ f.output_length
       enough x le = omega (arith, output_rises x.steps f.steps le, needed)

@@ -1,5 +1,5 @@
 -- No image of a store is lost.
-use Rattle.std.proofs.Common.{◌≡◌, ◌≢◌, refl, sym, ◌∙◌, ap, subst, ℕ, ◌+◌, ◌≤◌, not, ◌==◌, nat_le, nat_lt, Bool, true, false, cond, List, [], ◌∷◌, ◌++◌, length, Option, Some, None, Result, Ok, arith}
+use Rattle.std.proofs.Common.{◌≡◌, ◌≢◌, refl, sym, ◌∙◌, ap, subst, ℕ, ◌+◌, ◌≤◌, not, List, [], ◌∷◌, ◌++◌, length, Option, Some, None, Result, Ok, arith}
 use Rattle.disk_model.specs.declared.disk_file.DiskFile.{DiskFile}
 use Rattle.disk_model.specs.declared.disk_file.DiskFile.TheVariants.{Output, One, Two}
 use Rattle.disk_model.specs.Store.{Store, file_of}
@@ -9,13 +9,13 @@ use Rattle.image_format.specs.Image.{Image}
 use Rattle.image_format.specs.Reading.{◌>>=◌}
 use Rattle.image_chain.specs.Append.{other}
 use Rattle.image_chain.specs.Lists.{found_of}
-use Rattle.image_chain.specs.Records.{Damage, Found, header_in, only_open, records_at, newest_of, in_number, found_in, chain_in, broken_field}
+use Rattle.image_chain.specs.Records.{Damage, Found, header_in, records_at, newest_of, in_number, found_in, chain_in, broken_field}
 use Rattle.output_file.specs.OnDisk.{IsBehind}
-use Rattle.run_images.specs.JoinedList.{JoinsRecords}
+use Rattle.coalesce.specs.Join.{Joins}
 use Rattle.run_images.specs.Later.{IsLater}
-use Rattle.run_images.specs.Changes.{IsJoinedIn}
+use Rattle.run_images.proofs.Outcomes.{IsJoinedIn}
 use Rattle.run_images.proofs.StandLaws.{chain_by, same_found, none_found}
-use Rattle.run_images.proofs.StepLaws.{Parts, parts_of, Heads, heads}
+use Rattle.run_images.proofs.FoundLaws.{Parts, parts_of, heads}
 use Rattle.run_images.proofs.AppendLaws.{rises, newest_more, newest_some}
 
 -- ---- the chain of a store is that of its image files
@@ -86,11 +86,11 @@ appended_later j f h (q ∷ rs) r old new later is follows now =
       later = omega (arith, was, rise);
     }
 
-pub joined_later : (j : ℕ) (f : DiskFile) (h k : Header) (rs : List Image) (r : Image) (old new : Store) → IsLater j old → JoinsRecords rs r → IsJoinedIn f h k rs r old new → IsLater j new
+pub joined_later : (j : ℕ) (f : DiskFile) (h k : Header) (rs : List Image) (r : Image) (old new : Store) → IsLater j old → Joins rs r → IsJoinedIn f h k rs r old new → IsLater j new
 joined_later j f h k rs r old new later joins is = record {
   found = record { file = other f; header = k; records = r ∷ [] };
   chain = is.lists;
   newest = r.fields;
   newest_is = refl;
-  later = newest_here j f h rs old r.fields later is.was joins.newest;
+  later = newest_here j f h rs old r.fields later is.was joins.fields;
 }

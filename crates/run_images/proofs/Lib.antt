@@ -4,8 +4,16 @@ pub mod ImageLaws
 pub mod JoinLaws
 -- stores that stand
 pub mod StandLaws
--- what calls of the layers below leave standing
-pub mod StepLaws
+-- what one call changes in an outcome of a crash
+pub mod Outcomes
+-- what finding a chain says of the files
+pub mod FoundLaws
+-- what a change of the output leaves standing
+pub mod OutputLaws
+-- an outcome whose current file lists records that stand
+pub mod ListedLaws
+-- an outcome whose other file has the one joined record
+pub mod JoinedLaws
 -- what the fold over events keeps
 pub mod FactLaws
 -- a taken image holds what the run needs
@@ -26,3 +34,5 @@ pub mod EndLaws
 pub mod LastingLaws
 -- no image of a store is lost
 pub mod LaterLaws
+-- a chain that stands, and its calls
+pub mod ChainLaws

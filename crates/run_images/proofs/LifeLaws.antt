@@ -1,30 +1,29 @@
 -- What a life shows is what its source's run shows, and the images that it takes stand.
-use Rattle.std.proofs.Common.{◌≡◌, refl, sym, ◌∙◌, ap, subst, ℕ, ◌+◌, ◌-◌, ◌<◌, ◌≤◌, ◌==◌, ◌||◌, Bool, true, false, cond, ⊎_elim, List, [], ◌∷◌, ◌++◌, length, take, Some, None, append_assoc, append-nil, arith}
+use Rattle.std.proofs.Common.{◌≡◌, refl, sym, ◌∙◌, ap, subst, ℕ, ◌+◌, ◌==◌, ◌||◌, Bool, true, false, cond, ⊎_elim, List, [], ◌∷◌, ◌++◌, length, take, Some, None, append_assoc, append-nil, arith}
 use Rattle.std.specs.Prelude.{slice_index}
-use Rattle.std.specs.List.{list_any, Contains}
+use Rattle.std.specs.List.{Contains}
 use Rattle.std.proofs.lemmas.List.{take_all}
 use Rattle.std.proofs.lemmas.List.Elements.{Contains-append_cases}
 use Rattle.ckpt_base.specs.Event.{Event, Wrote, Byte, Took, Excluded, Checkpoint}
-use Rattle.ckpt_base.specs.Run.{Run, output}
+use Rattle.ckpt_base.specs.Run.{output}
 use Rattle.path_laws.specs.Forgettable.{IsForgettable}
 use Rattle.image_format.specs.declared.fields.Fields.{Fields}
 use Rattle.image_format.specs.Image.{Image}
 use Rattle.machine_code.specs.Run.{World}
 use Rattle.machine_code.specs.Shown.{wrote}
 use Rattle.run_images.specs.Since.{Since, at_first, is_due, with_event, is_fresh, since_after}
-use Rattle.run_images.specs.Images.{Taking, TakenImage, taken_at, taken_with, images, images_from}
+use Rattle.run_images.specs.Images.{Taking, TakenImage, taken_at, images, images_from}
 use Rattle.run_images.specs.JoinedList.{IsOf, IsJoinedList}
 use Rattle.run_images.specs.Source.{Source, IsSource, run_of, output_of, taking_of, images_of}
 use Rattle.run_images.specs.Hold.{HoldWords, HoldUnwritten, IsTakenAt}
 use Rattle.run_images.specs.Stands.{StandsFor}
 use Rattle.run_images.specs.Origin.{Origin, IsAsSource, events_before, IsOfSource}
 use Rattle.run_images.specs.Shown.{HasShown, TakesImage, HasTaken}
-use Rattle.run_images.specs.Asked.{RunsAreSpared}
 use Rattle.run_images.proofs.ImageLaws.{since_more, images_more, taken_due}
 use Rattle.run_images.proofs.JoinLaws.{joined_grow}
 use Rattle.run_images.proofs.AppendLaws.{newest_more}
 use Rattle.run_images.proofs.FactLaws.{has_cell, or_both, none_written, not_first}
-use Rattle.run_images.proofs.HoldLaws.{taken_holds}
+use Rattle.run_images.proofs.HoldLaws.{RunsAreSpared, taken_holds}
 
 pub output_both : (xs ys : List Event) → output (xs ++ ys) ≡ output xs ++ output ys
 output_both [] ys = refl

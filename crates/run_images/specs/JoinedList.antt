@@ -1,9 +1,7 @@
 -- Records that stand for images: the first may stand for several, each other one for one.
-use Rattle.std.specs.Prelude.{◌≡◌, ℕ, Bool, is_some, Some, None, List, [], ◌∷◌, ◌++◌}
+use Rattle.std.specs.Prelude.{◌≡◌, ℕ, Bool, is_some, List, [], ◌∷◌, ◌++◌}
 use Rattle.std.specs.List.{list_any}
 use Rattle.image_format.specs.Image.{Image, word_in_runs}
-use Rattle.image_chain.specs.Memory.{memory}
-use Rattle.image_chain.specs.Records.{newest_of}
 use Rattle.run_images.specs.Images.{TakenImage}
 
 -- whether a record lists the cell
@@ -36,8 +34,3 @@ pub record AreJoined (r : Image) (rs : List Image) (images : List TakenImage) : 
 abbrev pub IsJoinedList : List Image → List TakenImage → Type 0
 IsJoinedList [] images = images ≡ []
 IsJoinedList (r ∷ rs) images = AreJoined r rs images
-
--- the record says what the newest of the records says, and gives each cell the word that they give it
-pub record JoinsRecords (rs : List Image) (r : Image) : Type 0 where
-  pub newest : newest_of None rs ≡ Some r.fields
-  pub words : (c : ℕ) → memory (r ∷ []) c ≡ memory rs c

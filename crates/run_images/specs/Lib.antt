@@ -12,15 +12,9 @@ pub mod Hold
 pub mod Stands
 -- how far the newest image of a store is
 pub mod Later
--- what one call changes in a store, and what finding a chain says of it
-pub mod Changes
--- what excluded sets promise of the events of a run
-pub mod Spared
 -- what a life takes from a compiled program
 pub mod Compiled
 -- where the run of a life begins, and when it goes like its source
 pub mod Origin
 -- what a life has shown of its source, and the images that it takes
 pub mod Shown
--- what is asked of the crates below
-pub mod Asked

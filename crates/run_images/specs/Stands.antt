@@ -7,6 +7,8 @@ use Rattle.disk_model.specs.View.{View}
 use Rattle.image_format.specs.declared.fields.Fields.{Fields}
 use Rattle.image_format.specs.declared.header.Header.{Header}
 use Rattle.image_format.specs.Image.{Image}
+use Rattle.image_chain.specs.declared.chain.Current.{Current}
+use Rattle.image_chain.specs.Lists.{Lists}
 use Rattle.image_chain.specs.Records.{header_in, records_at, newest_of, in_number}
 use Rattle.run_images.specs.Source.{Source, run_of, output_of, images_of}
 use Rattle.run_images.specs.JoinedList.{IsJoinedList}
@@ -52,6 +54,14 @@ pub record StandsWithin (s : Source) (n : ℕ) (c : Store) : Type 0 where
 -- there are no records, or they stand with the first n of these bytes
 abbrev pub StandWith : Source → ℕ → ℕ → List ℕ → List Image → Type 0
 StandWith s every n bytes rs = (rs ≡ []) ⊎ StandsFor s every rs (take n bytes)
+
+-- An outcome of a crash stands within the first n of these bytes, and so does its chain with these records.
+pub record ChainStands (s : Source) (n : ℕ) (bytes : List ℕ) (chain : Current) (rs : List Image) (c : Store) : Type 0 where
+  pub image_file : chain.file ≢ Output
+  pub stands : StandsWithin s n c
+  pub output : take n c.output ≡ take n bytes
+  pub lists : Lists chain rs c
+  pub records : StandWith s chain.every n bytes rs
 
 -- every store that a crash now may leave stands
 abbrev pub AllStand : Source → View → Type 0

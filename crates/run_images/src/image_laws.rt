@@ -5,12 +5,14 @@ ghost use Rattle.std.specs.List.{Contains};
 ghost use Rattle.ckpt_base.specs.Event.{Event, Checkpoint};
 ghost use Rattle.image_format.specs.Image.{Image};
 ghost use Rattle.machine_code.specs.Shown.{wrote};
+ghost use Rattle.coalesce.specs.Join.{Joins};
 ghost use Rattle.run_images.specs.Since.{Since, is_due, since_after};
 ghost use Rattle.run_images.specs.Images.{Taking, TakenImage, images_from, since_behind};
-ghost use Rattle.run_images.specs.JoinedList.{IsOf, IsJoinedList, JoinsRecords};
+ghost use Rattle.run_images.specs.JoinedList.{IsOf, IsJoinedList};
 ghost use Rattle.run_images.specs.Source.{Source, IsSource};
 ghost use Rattle.run_images.specs.Hold.{HoldWords, HoldUnwritten, IsTakenAt};
-ghost use Rattle.run_images.specs.Asked.{RunsAreSpared};
+
+use flow_graph::runs_spare_excluded_cells;
 
 /// The images of a run are those of its first events, and then those of the others from there.
 pub fn images_go_on()
@@ -31,13 +33,15 @@ pub fn joined_lists_grow()
 
 /// The one record that joins records is a joined list of the same images.
 pub fn joined_lists_join()
-    ensures law { (rs : List Image) (r : Image) (taken : List TakenImage) → IsJoinedList rs taken → JoinsRecords rs r → IsJoinedList (r ∷ []) taken }
+    ensures law { (rs : List Image) (r : Image) (taken : List TakenImage) → IsJoinedList rs taken → Joins rs r → IsJoinedList (r ∷ []) taken }
 {}
 
 /// Right behind an image of the source's run the records, the new one among them, give each cell that is not forgettable there its word.
 pub fn taken_images_hold()
-    ensures law { (s : Source) (every node t : ℕ) (es : List Event) (rs : List Image) (r : Image) (m : List ℕ) → RunsAreSpared → IsSource s → IsTakenAt s every node t es rs r m → HoldWords s node (rs ++ r ∷ []) m }
-{}
+    ensures law { (s : Source) (every node t : ℕ) (es : List Event) (rs : List Image) (r : Image) (m : List ℕ) → IsSource s → IsTakenAt s every node t es rs r m → HoldWords s node (rs ++ r ∷ []) m }
+{
+    runs_spare_excluded_cells();
+}
 
 /// Between two images the records go on to give each cell that was not written its word.
 pub fn unwritten_words_stay()

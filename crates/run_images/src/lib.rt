@@ -7,8 +7,8 @@
 //!
 //! This crate makes no call on a disk and has no state: it has definitions, in `specs/`, and their laws, functions with empty
 //! bodies. [`image_laws`](images_go_on): images go on with the events, joined lists grow and join, and a new image holds what the run
-//! needs. [`store_laws`](listed_records_stand): each change that the chain and the output make to a store leaves it standing, and loses
-//! no image. [`life_laws`](resumed_lives_are_of_their_source): a life that begins, or goes on from records that stand, shows what its
+//! needs. [`store_laws`](chains_keep_standing): what a crash leaves in each call of the chain and the output stands, with no image
+//! lost. [`life_laws`](resumed_lives_are_of_their_source): a life that begins, or goes on from records that stand, shows what its
 //! source shows, takes images that stand, and ends as its source.
 #![tactic(auto)]
 
@@ -25,7 +25,6 @@ pub use life_laws::{
     lives_show_what_their_source_shows, resumed_lives_are_of_their_source,
 };
 pub use store_laws::{
-    appends_keep_standing, empty_stores_stand, found_chains_are_there, images_are_not_lost,
-    joined_records_stand, kept_chains_stand, listed_records_stand, newest_images_need_most,
-    outputs_grow_behind, standing_records_stay,
+    chains_keep_standing, empty_stores_stand, images_are_not_lost, kept_chains_stand,
+    newest_images_need_most, outputs_grow_behind, standing_records_stay,
 };

@@ -1,31 +1,32 @@
 // Laws of stores that stand, and of what each call on a store leaves of them: functions that do nothing, whose contracts are theorems.
 
-ghost use Rattle.std.specs.Prelude.{◌≡◌, ◌≢◌, ◌⊎◌, ℕ, ◌≤◌, List, [], ◌∷◌, ◌++◌, length, take, Some, None, Ok};
-ghost use Rattle.disk_model.specs.declared.disk_file.DiskFile as file;
+ghost use Rattle.std.specs.Prelude.{◌≡◌, ℕ, ◌≤◌, List, [], ◌∷◌, ◌++◌, length, Some, None, Ok};
 ghost use Rattle.disk_model.specs.Store.{Store};
 ghost use Rattle.image_format.specs.declared.fields.Fields.{Fields};
-ghost use Rattle.image_format.specs.declared.header.Header.{Header};
 ghost use Rattle.image_format.specs.Image.{Image};
+ghost use Rattle.image_chain.specs.declared.chain.Current.{Current};
+ghost use Rattle.image_chain.specs.Lists.{Lists, IsKept, IsAppended};
 ghost use Rattle.image_chain.specs.Records.{broken_field, chain_in, Found, newest_of};
-ghost use Rattle.image_chain.specs.Lists.{found_of};
+ghost use Rattle.image_chain.specs.Replace.{IsReplaced};
+ghost use Rattle.coalesce.specs.Join.{Joins};
 ghost use Rattle.output_file.specs.OnDisk.{IsBehind};
-ghost use Rattle.run_images.specs.JoinedList.{JoinsRecords};
 ghost use Rattle.run_images.specs.Source.{Source, IsSource};
-ghost use Rattle.run_images.specs.Stands.{Stands, StandsFor, StandsWithin, StandWith};
+ghost use Rattle.run_images.specs.Stands.{Stands, StandsFor, StandsWithin, StandWith, ChainStands};
 ghost use Rattle.run_images.specs.Later.{IsLater};
-ghost use Rattle.run_images.specs.Changes.{IsListedIn, IsJoinedIn, IsFoundIn, NoneAhead};
-ghost use Rattle.run_images.specs.Asked.{Asked};
 
-use code_maker::codes_mean_their_graphs;
-use disk_model::DiskFile;
+use code_maker::{
+    checkpoints_end_ticks, codes_keep_pointers, codes_mean_their_graphs, codes_run_alike,
+    codes_stand_behind,
+};
 use flow_graph::graphs_mean_their_programs;
 use machine_code::{runs_give_one_answer, runs_pass_what_they_reach, runs_show_what_they_do};
 
 // ---- stores
 
-/// A store with two empty image files stands for every source.
+/// A store without a chain and without damage stands for every source, and needs none of the output; so does one with two empty image files.
 pub fn empty_stores_stand()
-    ensures law { (s : Source) (c : Store) → c.one ≡ [] → c.two ≡ [] → Stands s c }
+    ensures empty { (s : Source) (c : Store) → c.one ≡ [] → c.two ≡ [] → Stands s c }
+    ensures chainless { (s : Source) (n : ℕ) (c : Store) → chain_in c ≡ Ok None → StandsWithin s n c }
 {}
 
 /// The records that opening a standing store finds stand for its source.
@@ -33,21 +34,19 @@ pub fn kept_chains_stand()
     ensures law { (s : Source) (c : Store) (found : Found) → Stands s c → chain_in c ≡ Ok (Some found) → StandsFor s found.header.every found.records c.output }
 {}
 
-/// Finding a chain says how the files stand.
-pub fn found_chains_are_there()
-    ensures law { (c : Store) (found : Found) → chain_in c ≡ Ok (Some found) → IsFoundIn c found }
-{}
-
-/// A standing store needs no more of the output than its newest image says, and without a chain none.
+/// A standing store needs no more of the output than its newest image says.
 pub fn newest_images_need_most()
-    ensures none { (s : Source) (n : ℕ) (c : Store) → Stands s c → chain_in c ≡ Ok None → StandsWithin s n c }
-    ensures some { (s : Source) (c : Store) (found : Found) (newest : Fields) → Asked → IsSource s → Stands s c → chain_in c ≡ Ok (Some found)
+    ensures law { (s : Source) (c : Store) (found : Found) (newest : Fields) → IsSource s → Stands s c → chain_in c ≡ Ok (Some found)
         → newest_of None found.records ≡ Some newest → StandsWithin s newest.output_length c }
 {
     runs_give_one_answer();
     runs_show_what_they_do();
     runs_pass_what_they_reach();
     graphs_mean_their_programs();
+    codes_run_alike();
+    codes_keep_pointers();
+    checkpoints_end_ticks();
+    codes_stand_behind();
     codes_mean_their_graphs();
 }
 
@@ -63,35 +62,24 @@ pub fn standing_records_stay()
     ensures law { (s : Source) (every n m : ℕ) (bytes more : List ℕ) (rs : List Image) → n ≤ m → n ≤ length bytes → StandWith s every n bytes rs → StandWith s every m (bytes ++ more) rs }
 {}
 
-// ---- changes of the image files
+// ---- calls of the chain
 
-/// An outcome whose current file lists records that stand, beside the other file as it was in one that stood, stands.
-pub fn listed_records_stand()
-    ensures law { (s : Source) (n : ℕ) (bytes : List ℕ) (f : file.DiskFile) (h : Header) (rs : List Image) (old new : Store) → StandsWithin s n old → take n old.output ≡ take n bytes
-        → StandWith s h.every n bytes rs → NoneAhead f rs old → IsListedIn f h rs old new → StandsWithin s n new }
+/// What a crash may leave in a call of a chain that stands, stands: in one that keeps its records; in an append of a record that follows them, where they
+/// stand with it too; and in a joining.
+pub fn chains_keep_standing()
+    ensures kept { (s : Source) (n : ℕ) (bytes : List ℕ) (chain : Current) (rs : List Image) (old new : Store) → ChainStands s n bytes chain rs old → IsKept chain rs old new → StandsWithin s n new }
+    ensures appended { (s : Source) (n : ℕ) (bytes : List ℕ) (chain : Current) (rs : List Image) (old new : Store) → ChainStands s n bytes chain rs old
+        → (r : Image) → broken_field (newest_of None rs) r.fields ≡ None → StandWith s chain.every n bytes (rs ++ r ∷ []) → IsAppended chain rs r old new → StandsWithin s n new }
+    ensures replaced { (s : Source) (n : ℕ) (bytes : List ℕ) (chain : Current) (rs : List Image) (old new : Store) → ChainStands s n bytes chain rs old
+        → (r : Image) → Joins rs r → IsReplaced chain rs r old new → StandsWithin s n new }
 {}
 
-/// Where the records stand with the bytes that last, and the records and one more too, an append of that one leaves stores that stand.
-pub fn appends_keep_standing()
-    ensures law { (s : Source) (n : ℕ) (bytes : List ℕ) (f : file.DiskFile) (h : Header) (rs : List Image) (r : Image) (old new : Store) → f ≢ DiskFile.Output
-        → StandsWithin s n old → take n old.output ≡ take n bytes → chain_in old ≡ Ok (found_of f h rs) → broken_field (newest_of None rs) r.fields ≡ None
-        → StandWith s h.every n bytes rs → StandWith s h.every n bytes (rs ++ r ∷ []) → IsListedIn f h rs old new ⊎ IsListedIn f h (rs ++ r ∷ []) old new → StandsWithin s n new }
-{}
-
-/// An outcome whose other image file is current with the one record that joins the records stands, beside the file that was current.
-pub fn joined_records_stand()
-    ensures law { (s : Source) (n : ℕ) (f : file.DiskFile) (h k : Header) (rs : List Image) (r : Image) (old new : Store) → StandsWithin s n old → JoinsRecords rs r
-        → IsJoinedIn f h k rs r old new → StandsWithin s n new }
-{}
-
-// ---- the newest image
-
-/// No image is lost: where an earlier outcome had image j or a later one, so has each that these changes make of it. They are a change of the output,
-/// none of the records, an append of a record that follows them, and a joining.
+/// No image is lost: where an earlier outcome had image j or a later one, so has what a crash may leave in a call of the output, and in one of the chain.
 pub fn images_are_not_lost()
     ensures behind { (j n : ℕ) (old new : Store) → IsLater j old → IsBehind n old new → IsLater j new }
-    ensures listed { (j : ℕ) (f : file.DiskFile) (h : Header) (rs : List Image) (old new : Store) → IsLater j old → chain_in old ≡ Ok (found_of f h rs) → chain_in new ≡ Ok (found_of f h rs) → IsLater j new }
-    ensures appended { (j : ℕ) (f : file.DiskFile) (h : Header) (rs : List Image) (r : Image) (old new : Store) → IsLater j old → chain_in old ≡ Ok (found_of f h rs)
-        → broken_field (newest_of None rs) r.fields ≡ None → chain_in new ≡ Ok (found_of f h (rs ++ r ∷ [])) → IsLater j new }
-    ensures joined { (j : ℕ) (f : file.DiskFile) (h k : Header) (rs : List Image) (r : Image) (old new : Store) → IsLater j old → JoinsRecords rs r → IsJoinedIn f h k rs r old new → IsLater j new }
+    ensures kept { (j : ℕ) (chain : Current) (rs : List Image) (old new : Store) → IsLater j old → Lists chain rs old → IsKept chain rs old new → IsLater j new }
+    ensures appended { (j : ℕ) (chain : Current) (rs : List Image) (old new : Store) → IsLater j old → Lists chain rs old
+        → (r : Image) → broken_field (newest_of None rs) r.fields ≡ None → IsAppended chain rs r old new → IsLater j new }
+    ensures replaced { (j : ℕ) (chain : Current) (rs : List Image) (old new : Store) → IsLater j old → Lists chain rs old
+        → (r : Image) → Joins rs r → IsReplaced chain rs r old new → IsLater j new }
 {}

@@ -3,5 +3,7 @@ use Rattle.run_images.proofs.life_laws.resumed_lives_are_of_their_source.Goals a
 
 pub returns : goal.returns
 returns c = record {
-  law = λ s v every fill rs file o asked. resumed_is_of_source (record { one = c.runs_give_one_answer.ensures.law; shows = c.runs_show_what_they_do.ensures.law; passes = c.runs_pass_what_they_reach.ensures.law; means = c.graphs_mean_their_programs.ensures.law }) asked s v every fill rs file o;
+  law = resumed_is_of_source
+      (record { one = c.runs_give_one_answer.ensures.law; shows = c.runs_show_what_they_do.ensures.law; passes = c.runs_pass_what_they_reach.ensures.law; means = c.graphs_mean_their_programs.ensures.law })
+      (record { alike = c.codes_run_alike.ensures.alike; agree = c.codes_run_alike.ensures.memory; pointers = c.codes_keep_pointers.ensures.law; ends = c.checkpoints_end_ticks.ensures.law; behind = c.codes_stand_behind.ensures.law });
 }

@@ -1,4 +1,4 @@
--- What one call on the store changes in an outcome of a crash, and what finding a chain says of the files.
+-- What one call changes in an outcome of a crash, by files, and what finding a chain says of them.
 use Rattle.std.specs.Prelude.{◌≡◌, ◌≢◌, ◌⊎◌, ◌<◌, ◌≤◌, List, [], ◌∷◌, Option, Some, None, Ok}
 use Rattle.disk_model.specs.declared.disk_file.DiskFile.{DiskFile}
 use Rattle.disk_model.specs.declared.disk_file.DiskFile.TheVariants.{Output}
