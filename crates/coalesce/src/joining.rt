@@ -18,7 +18,8 @@ use image_chain::{Chain, Kept, Step};
 /// fields, to the other image file, and makes that file current. No record is under way.
 ///
 /// `kept` is the joined content, and `out` has room for the greatest record, 2,097,269 bytes. At each moment a crash leaves the old
-/// records or the one; after `Ok` the one for good. After `Failed` the chain is spent, and `out` and `runs` hold anything.
+/// records or the one; after `Ok` the one for good. After `Failed` the chain is spent. `out` and `runs` hold anything then, and
+/// have their room.
 pub fn join<D: Disk>(
     chain: &mut Chain,
     disk: &mut D,
@@ -30,6 +31,7 @@ pub fn join<D: Disk>(
     requires rest { chain.old.due ≡ Step.Piece 0 }
     requires room { 2097269 ≤ out.old.spare + length out.old.list }
     requires rests { IsTrue (D.view disk.old).tells → (rs : List Image) × Rests chain.old (D.view disk.old) rs × IsContent kept.now rs }
+    ensures room { 2097269 ≤ out.new.spare + length out.new.list }
     ensures took { OnOk result ((chain.new.due ≡ Step.Piece 0) × StandsOnOther chain.old.current chain.new.current) }
     ensures joins { IsTrue (D.view disk.old).tells → (rs : List Image) → Rests chain.old (D.view disk.old) rs → IsContent kept.now rs
         → Joining chain.old chain.new rs result (D.view disk.old) (D.view disk.new) }
@@ -47,7 +49,8 @@ pub fn join<D: Disk>(
 fn make_record(chain: &Chain, kept: &Kept, out: &mut Bytes, runs: &mut RunList)
     requires records { 2 ≤ chain.now.current.count }
     requires room { 2097269 ≤ out.old.spare + length out.old.list }
-    ensures { (r : Image) × Spells r out.new.list × (chain.now.current.newest ≡ Some r.fields) × ((c : ℕ) → word_in_runs r.runs c ≡ kept_word kept.now c) }
+    ensures room { 2097269 ≤ out.new.spare + length out.new.list }
+    ensures spelled { (r : Image) × Spells r out.new.list × (chain.now.current.newest ≡ Some r.fields) × ((c : ℕ) → word_in_runs r.runs c ≡ kept_word kept.now c) }
 {
     find_runs(kept, runs);
     out.clear();

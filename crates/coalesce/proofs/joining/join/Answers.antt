@@ -5,12 +5,12 @@ use Rattle.coalesce.proofs.joining.join.Goals as goal
 
 pub replace-requires-clause-newest : goal.replace-requires-clause-newest
 replace-requires-clause-newest g c = λ r spells.
-    let made = c.make_record.ensures in
+    let made = c.make_record.ensures.spelled in
     newest_spelled c.args.chain.now made.0 r c.as_slice.result.now (subst (Spells made.0) (sym c.as_slice.ensures.answer) made.1) made.2 spells
 
 pub returns-in_err-replace-clause-joins : goal.returns-in_err-replace-clause-joins
 returns-in_err-replace-clause-joins g c = λ tells rs rests content.
-    let made = c.make_record.ensures in
+    let made = c.make_record.ensures.spelled in
     let spells = subst (Spells made.0) (sym c.as_slice.ensures.answer) made.1 in
     record {
       image = made.0;
@@ -21,7 +21,7 @@ returns-in_err-replace-clause-joins g c = λ tells rs rests content.
 
 pub returns-clause-joins : goal.returns-clause-joins
 returns-clause-joins g c = λ tells rs rests content.
-    let made = c.make_record.ensures in
+    let made = c.make_record.ensures.spelled in
     let spells = subst (Spells made.0) (sym c.as_slice.ensures.answer) made.1 in
     record {
       image = made.0;

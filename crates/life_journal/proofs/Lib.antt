@@ -1,0 +1,6 @@
+-- the journal beside the calls of its parts
+pub mod BesideLaws
+-- bytes that are pushed one after another
+pub mod PushLaws
+-- what a journal holds goes on from call to call
+pub mod HoldLaws

@@ -1,0 +1,12 @@
+use Rattle.std.proofs.Common.{refl, sym, subst}
+use Rattle.life_journal.specs.JournalView.{JournalView}
+use Rattle.life_journal.specs.Holding.{HoldsJournal}
+use Rattle.life_journal.specs.contracts.journal.Journal.{the_view}
+use Rattle.life_journal.proofs.HoldLaws.{output_lasts}
+use Rattle.life_journal.proofs.journal.Journal.flush.Goals as goal
+
+pub returns-clause-holds : goal.returns-clause-holds
+returns-clause-holds g c = λ tells rs w h.
+    let u = g.D.Disk.view c.args.disk.now in
+    let was = subst (λ (j : JournalView). HoldsJournal j u rs w) (sym c.self.view_is) h in
+    (output_lasts (the_view c.self.inside) _ u (g.D.Disk.view c.flush.new.disk) refl refl c.flush.ensures.same c.in_ok-flush.ensures.answer tells rs w was, c.in_ok-flush.ensures.durable tells w was.output)

@@ -1,0 +1,12 @@
+use Rattle.std.proofs.Common.{refl, sym, subst}
+use Rattle.life_journal.specs.JournalView.{JournalView}
+use Rattle.life_journal.specs.Holding.{HoldsJournal}
+use Rattle.life_journal.specs.contracts.journal.Journal.{the_view}
+use Rattle.life_journal.proofs.HoldLaws.{output_grows}
+use Rattle.life_journal.proofs.journal.Journal.write.Goals as goal
+
+pub returns-clause-holds : goal.returns-clause-holds
+returns-clause-holds g c = λ tells rs w h.
+    let u = g.D.Disk.view c.args.disk.now in
+    output_grows (the_view c.self.inside) _ u (g.D.Disk.view c.push_all.new.disk) c.args.bytes.now refl refl c.push_all.ensures.same c.in_ok-push_all.ensures.answer tells rs w
+    (subst (λ (j : JournalView). HoldsJournal j u rs w) (sym c.self.view_is) h)
