@@ -1,5 +1,5 @@
 -- Classes that were found so far.
-use Rattle.std.proofs.Common.{ℕ, ◌+◌, ◌<◌, ◌≤◌, ◌≡◌, true, false, ◌||◌, List, [], ◌∷◌, ◌++◌, length, length-append, get_or, take, arith, subst, sym, ap, ◌∙◌, refl, eqb, inl, inr, zero, suc}
+use Rattle.std.proofs.Common.{ℕ, ◌+◌, ◌-◌, ◌<◌, ◌≤◌, ◌≡◌, true, false, ◌||◌, List, [], ◌∷◌, ◌++◌, length, length-append, get_or, take, arith, subst, sym, ap, ◌∙◌, refl, eqb, inl, inr, zero, suc}
 use Rattle.std.proofs.lemmas.Bool.{false≢true, cases_lt, or_parts, eqb-false}
 use Rattle.std.proofs.lemmas.Bool.Decides.{nat_tests}
 use Rattle.std.proofs.lemmas.Option.{slice_get_past}
@@ -12,7 +12,7 @@ use Rattle.path_laws.specs.declared.graph.Node.{Node}
 use Rattle.path_laws.specs.declared.graph.Mark.TheVariants.{Plain}
 use Rattle.path_laws.specs.Graph.{Graph, may_read, may_write, kills, is_directive, mark_is_directive}
 use Rattle.exclusion_equations.specs.declared.signature.Signature.{Signature}
-use Rattle.exclusion_equations.specs.Excluded.{IsExactly}
+use Rattle.exclusion_equations.specs.Excluded.{IsExactly, numbered}
 use Rattle.exclusion_equations.specs.Classes.{AreAlike, AreClasses}
 use Rattle.exclusion_equations.specs.Finding.{HasWidth, IsSignature, AreSame, signature_at, AreFound}
 
@@ -218,3 +218,12 @@ exact_push cells Test k sets more s e l old new j lj =
       | inl below ↦ subst (IsExactly cells (Test (j + 1))) (sym (get_or-push_below sets s j [] (omega arith))) (old j below)
       | inr above ↦ let at : k ≡ j = omega arith in subst (IsExactly cells (Test (j + 1))) (sym (get_or-push_at sets s j [] (omega arith))) (subst (λ (i : ℕ). IsExactly cells (Test (i + 1)) s) at new)
     ])
+
+-- the sets from 1 on
+pub numbered_at : (sets : List Cells) (k : ℕ) → 1 ≤ k → get_or sets (k - 1) [] ≡ numbered sets k
+numbered_at sets zero le = absurd (omega (arith, le))
+numbered_at sets (suc k) le = let e : suc k - 1 ≡ k = omega arith in ap (λ i. get_or sets i []) e
+
+pub numbered_exactly : (cells : ℕ) (Test : ℕ → ℕ → Type 0) (count : ℕ) (sets : List Cells) → ((j : ℕ) → j < count → IsExactly cells (Test (j + 1)) (get_or sets j [])) → (k : ℕ) → 1 ≤ k → k ≤ count → IsExactly cells (Test k) (numbered sets k)
+numbered_exactly cells Test count sets each zero low high = absurd (omega (arith, low))
+numbered_exactly cells Test count sets each (suc k) low high = let e : k + 1 ≡ suc k = omega arith in subst (λ i. IsExactly cells (Test i) (get_or sets k [])) e (each k (omega (arith, high)))

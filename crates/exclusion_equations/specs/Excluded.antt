@@ -1,5 +1,5 @@
 -- Cells that an image may leave out.
-use Rattle.std.specs.Prelude.{ℕ, ◌-◌, ◌<◌, ◌≤◌, ◌≡◌, true, List, [], ◌∷◌, length, slice_index_or, ◌⊎◌, ◌↔◌}
+use Rattle.std.specs.Prelude.{ℕ, zero, suc, ◌<◌, ◌≤◌, ◌≡◌, true, List, [], ◌∷◌, length, slice_index_or, ◌⊎◌, ◌↔◌}
 use Rattle.cell_sets.specs.Sets.{Cells, universe_of, has}
 use Rattle.path_laws.specs.Graph.{Graph, may_write, is_checkpoint, is_directive, exclude_count}
 use Rattle.path_laws.specs.Walks.{IsWalk, NoExclude, last_of}
@@ -30,12 +30,17 @@ pub record Sets : Type 0 where
   pub dead : List Cells
   pub read_only : List Cells
 
--- the dead and the read-only cells of EXCLUDE_HERE k
+-- the k-th of the sets, from 1 on; 0 has the empty set, and so has a number that is too great
+abbrev pub numbered : List Cells → ℕ → Cells
+numbered sets zero = []
+numbered sets (suc k) = slice_index_or sets k []
+
+-- the dead and the read-only cells of EXCLUDE_HERE k; before the first one, which is 0, there are none
 abbrev pub dead_of : Sets → ℕ → Cells
-dead_of s k = slice_index_or s.dead (k - 1) []
+dead_of s k = numbered s.dead k
 
 abbrev pub read_only_of : Sets → ℕ → Cells
-read_only_of s k = slice_index_or s.read_only (k - 1) []
+read_only_of s k = numbered s.read_only k
 
 -- the set has exactly the cells that pass the test
 pub record IsExactly (cells : ℕ) (Test : ℕ → Type 0) (s : Cells) : Type 0 where

@@ -31,6 +31,7 @@ impl Model for Exclusions {
 
 impl Exclusions {
     /// The dead cells of EXCLUDE_HERE `k`: no walk from it comes to a CHECKPOINT_HERE at which they are wanted.
+    #[tactic(auto, using(crate::proofs::ClassLaws::numbered_at))]
     pub fn dead(&self, k: u16) -> &CellSet
         requires first { 1 ≤ k }
         requires last { k ≤ length self.now.dead }
@@ -40,6 +41,7 @@ impl Exclusions {
     }
 
     /// The read-only cells of EXCLUDE_HERE `k`: they are not dead, and no walk from it writes them before a CHECKPOINT_HERE.
+    #[tactic(auto, using(crate::proofs::ClassLaws::numbered_at))]
     pub fn read_only(&self, k: u16) -> &CellSet
         requires first { 1 ≤ k }
         requires last { k ≤ length self.now.read_only }
