@@ -1,4 +1,5 @@
-"""The driver of the bench, a program in Rattle with its proof: `files(code)` answers its files by path."""
+"""The drivers of the bench, programs in Rattle with their proofs: `files(code)` answers the files of the one that calls `Machine::run_on`, by path,
+`counted_files(code)` those of the one that calls `Machine::run_for`, with 1,000 instructions at a time."""
 
 HEAD = """// Runs a job on the machine, one tick a call.
 #![tactic(auto)]
@@ -200,3 +201,24 @@ def files(code):
     job = "// The code of the job.\n\nuse machine_code::Instr;\n\npub static CODE: [Instr; %d] = [\n" % len(code)
     job += "".join(instruction(name, operand) for name, operand in code) + "];\n"
     return {"src/main.rt": HEAD.replace("CHECKPOINT", ", ".join(checkpoint)), "src/program.rt": job, **PROOFS}
+
+
+COUNTED = [
+    ("/// Runs a machine until it ends or", "/// How many instructions are done at a time.\nconst COUNT: u64 = 1000;\n\n/// Runs a machine until it ends or"),
+    ("    pages: &mut Pages,\n    steps: &mut Steps<L>,\n) -> Ending", "    pages: &mut Pages,\n    left: &mut u64,\n    steps: &mut Steps<L>,\n) -> Ending"),
+    (
+        "        match machine.run_on(code, frames, pages, until, steps) {\n            None => return Ending::Going,\n",
+        "        if *left == 0 {\n            *left = COUNT;\n        }\n        match machine.run_for(code, frames, pages, until, left, steps) {\n            None => {\n"
+        "                if *left > 0 {\n                    return Ending::Going;\n                }\n            }\n",
+    ),
+    ("    for k in 0..", "    let mut left = COUNT;\n    for k in 0.."),
+    ("go(k + 1, code, machine, frames, pages, steps)", "go(k + 1, code, machine, frames, pages, &mut left, steps)"),
+]
+
+
+def counted_files(code):
+    made = files(code)
+    for old, new in COUNTED:
+        assert made["src/main.rt"].count(old) == 1, old
+        made["src/main.rt"] = made["src/main.rt"].replace(old, new)
+    return {path: text.replace("Rattle.drive.", "Rattle.drive_counted.") for path, text in made.items()}

@@ -1,8 +1,9 @@
 #!/usr/bin/env python3
 """Compiles the large job of stencil.c, runs its code to the end on the machine and in a switch interpreter in C, and prints the ratio of their times.
 
-The code is that of `ckpt compile`. It copies the machine's crates into a folder of its own, writes a driver beside them that calls `Machine::run_on`, one tick a call as the
-run of a program does, lets `rt run` prove and build it, builds the C interpreter with gcc -O2, and runs the two in turn. Usage: bench/machine.py [FOLDER]
+The code is that of `ckpt compile`. It copies the machine's crates into a folder of its own, writes two drivers beside them, of which one calls `Machine::run_on` and the other
+`Machine::run_for`, one tick a call as the run of a program does, lets `rt run` prove and build them, builds the C interpreter with gcc -O2, and runs the three in turn.
+Usage: bench/machine.py [FOLDER]
 """
 
 import os
@@ -24,7 +25,9 @@ LIBRARIES = {
     "dirty_pages": "ckpt_base bitflags",
     "paged_machine": "ckpt_base machine_code page_frames dirty_pages",
     "drive": "ckpt_base machine_code page_frames dirty_pages paged_machine",
+    "drive_counted": "ckpt_base machine_code page_frames dirty_pages paged_machine",
 }
+DRIVERS = {"run_on": ("drive", driver.files), "run_for": ("drive_counted", driver.counted_files)}
 NAMES = (
     "Tick Num Addr LoadC StoreC LoadL StoreL Move Back Fetch Put Add Sub Mul Div Rem Shl Shr And Or Xor "
     "Neg Not Inv Test Eq Ne Lt Le Gt Ge Jump JumpZ Call Ret Drop OutC OutB OutN In Ckpt Excl"
@@ -59,15 +62,20 @@ def build_c(folder, code):
 
 
 def build_rattle(folder, code):
+    """The programs of the two drivers, by the call that each times."""
     top = os.path.join(folder, "rattle")
     for name in LIBRARIES:
-        if name != "drive":
+        if not name.startswith("drive"):
             shutil.copytree(os.path.join(CRATES, name), os.path.join(top, "crates", name), ignore=shutil.ignore_patterns("out", "must-fail"))
     write(os.path.join(top, "crates.txt"), "".join("%s: %s\n" % pair for pair in LIBRARIES.items()))
-    for path, text in driver.files(code).items():
-        write(os.path.join(top, "crates", "drive", path), text)
-    subprocess.check_call(["rt", "run", "--jobs", "2"], cwd=os.path.join(top, "crates", "drive"))
-    return os.path.join(top, "crates", "drive", "out", "drive")
+    programs = {}
+    for call, (name, files) in DRIVERS.items():
+        for path, text in files(code).items():
+            write(os.path.join(top, "crates", name, path), text)
+    for call, (name, _) in DRIVERS.items():
+        subprocess.check_call(["rt", "run", "--jobs", "2"], cwd=os.path.join(top, "crates", name))
+        programs[call] = os.path.join(top, "crates", name, "out", name)
+    return programs
 
 
 def seconds(program):
@@ -80,7 +88,7 @@ def main():
     folder = sys.argv[1] if len(sys.argv) > 1 else tempfile.mkdtemp(prefix="machine-bench-")
     code = compiled(os.path.join(HERE, "stencil.c"))
     print("%d instructions" % len(code))
-    programs = {"C, gcc -O2": build_c(folder, code), "machine": build_rattle(folder, code)}
+    programs = {"C, gcc -O2": build_c(folder, code), **build_rattle(folder, code)}
     times = {name: [] for name in programs}
     for _ in range(7):
         for name, program in programs.items():
@@ -89,7 +97,7 @@ def main():
             print("%-12s %.3f s  %s" % (name, t, last))
     best = {name: min(ts) for name, ts in times.items()}
     print("least: " + ", ".join("%s %.3f s" % pair for pair in best.items()))
-    print("ratio: %.2f" % (best["machine"] / best["C, gcc -O2"]))
+    print("ratios: " + ", ".join("%s %.2f" % (call, best[call] / best["C, gcc -O2"]) for call in DRIVERS))
 
 
 main()
