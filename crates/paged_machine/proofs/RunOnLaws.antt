@@ -1,5 +1,5 @@
 -- What runs of instructions show, one after another.
-use Rattle.std.proofs.Common.{◌≡◌, ℕ, ◌+◌, ◌<◌, ◌≤◌, max, length, true, arith, List, [], ◌++◌, Bool, Option, Some, None, refl, sym, ap, ◌∙◌, subst, append_assoc, ◌/◌, ◌⊎◌, ⊎_elim}
+use Rattle.std.proofs.Common.{◌≡◌, ℕ, ◌+◌, ◌<◌, ◌≤◌, max, length, true, arith, List, [], ◌++◌, Bool, Option, Some, None, refl, sym, ap, ◌∙◌, subst, append_assoc, ◌/◌, ◌⊎◌, ⊎_elim, inl, inr}
 use Rattle.std.specs.Prelude.{slice_get, slice_index, IfSome, IsNone}
 use Rattle.std.proofs.lemmas.List.{append-nil}
 use Rattle.std.proofs.Math.Nat.{le-max_left, le-max_right}
@@ -237,3 +237,31 @@ module _ (c : CodeView) (pages : PageStates) (until : ℕ) (v : MachineView) (m 
         shrinks = shrinks c until (count + done_by e) v.state x.state (Some e) all (omega arith);
         stopped = λ f. absurd (let g : Some e ≡ None = f in cc);
       }
+
+-- ---- runs of a number of instructions
+
+-- one that goes on was done
+pub done_on : (last : Option Event) → ((last ≡ Some Ran) ⊎ (last ≡ Some Ticked)) → done_of last ≡ 1
+done_on last on = ⊎_elim (λ e. ap done_of e) (λ e. ap done_of e) on
+
+-- where nothing is told, the run stopped before a tick, or would go on
+silent : (last : Option Event) → told last ≡ None → (last ≡ None) ⊎ (done_of last ≡ 1)
+silent None e = inl refl
+silent (Some Ran) e = inr refl
+silent (Some Ticked) e = inr refl
+silent (Some (WriteFault p)) e = absurd (cc)
+silent (Some (Out b)) e = absurd (cc)
+silent (Some (OutNumber v)) e = absurd (cc)
+silent (Some WantsInput) e = absurd (cc)
+silent (Some (Checkpoint k)) e = absurd (cc)
+silent (Some (Exclude k)) e = absurd (cc)
+silent (Some (Ended v)) e = absurd (cc)
+silent (Some (Trapped k)) e = absurd (cc)
+
+-- then no instruction is left, or the next would take a tick past the bound
+pub stopped_for : (c : CodeView) (pages : PageStates) (until : ℕ) (v : MachineView) (m : List ℕ) (count : ℕ) (w : MachineView) (n : List ℕ) (last : Option Event) (left back : ℕ) → Holds c pages until v m count last w n → told last ≡ None → back + done_of last ≡ 1 → ((left ≡ 0) ⊎ (told last ≡ last)) → (left + back ≡ 0) ⊎ ((slice_get c.instrs w.state.place ≡ Some Tick) × (until ≤ w.state.ticks))
+stopped_for c pages until v m count w n last left back held none one over =
+    ⊎_elim
+    (λ at. inr (held.stopped at))
+    (λ did. ⊎_elim (λ zero_left. inl (omega (arith, zero_left, one, did))) (λ same. inr (held.stopped (sym same ∙ none))) over)
+    (silent last none)

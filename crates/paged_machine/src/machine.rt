@@ -201,11 +201,13 @@ impl Machine {
         ensures answer { Answers code.now pages.now self.new.state frames.new result }
         ensures paid { rest code.now until self.new.state + left.old ≤ rest code.now until self.old.state + left.new }
     {
+        let mut rest = *left;
         let mut last = Some(Event::Ran);
-        'turns: while is_left(*left, last) {
+        'turns: while is_left(rest, last) {
+            rest -= 1;
             last = self.turn(code, frames, pages, until, steps);
-            *left -= done(last);
         }
+        *left = rest + not_done(last);
         told(last)
     }
 
@@ -647,19 +649,18 @@ fn is_left(left: u64, last: Option<Event>) -> bool
     left > 0 && goes_on(last)
 }
 
-/// How many instructions were done where one answered this.
+/// 1 where the instruction that answered this was not done, and else 0.
 #[inline(always)]
-fn done(last: Option<Event>) -> u64
-    ensures answer { result ≡ done_of last }
-    ensures few { result ≤ 1 }
+fn not_done(last: Option<Event>) -> u64
+    ensures { result + done_of last ≡ 1 }
 {
     match last {
-        None => 0,
-        Some(Event::WriteFault(_)) => 0,
-        Some(Event::WantsInput) => 0,
-        Some(Event::Ended(_)) => 0,
-        Some(Event::Trapped(_)) => 0,
-        Some(_) => 1,
+        None => 1,
+        Some(Event::WriteFault(_)) => 1,
+        Some(Event::WantsInput) => 1,
+        Some(Event::Ended(_)) => 1,
+        Some(Event::Trapped(_)) => 1,
+        Some(_) => 0,
     }
 }
 
