@@ -17,14 +17,14 @@ use Rattle.alias_sets.specs.declared.flows.PointerVar.TheVariants as var
 use Rattle.alias_sets.specs.declared.flows.Flow.{Flow}
 use Rattle.alias_sets.specs.Flows.{source, passed, flows}
 use Rattle.path_laws.specs.Graph as effects
-use Rattle.path_laws.specs.Graph.{may_read, may_write, kills, has_edge, next_of}
+use Rattle.path_laws.specs.Graph.{may_write, kills, has_edge, next_of}
 use Rattle.path_laws.specs.Edge.{is_at}
 use Rattle.access_summary.specs.Edges.{Edge}
 use Rattle.access_summary.specs.declared.effects.Effect.{Effect}
 use Rattle.access_summary.specs.declared.effects.Effect.TheVariants as effect
 use Rattle.access_summary.specs.declared.touch.Access.TheVariants as access'
 use Rattle.access_summary.specs.Effects as text
-use Rattle.access_summary.specs.Effects.{all_effects, call_effects, expr_effects, stored, pointer_effects}
+use Rattle.access_summary.specs.Effects.{all_effects, call_effects, expr_effects, pointer_effects}
 use Rattle.access_summary.specs.Touch.{Touches}
 use Rattle.access_summary.specs.declared.touch.Access.{Access}
 use Rattle.access_summary.specs.Summaries.{bodies, ReachesAccess}

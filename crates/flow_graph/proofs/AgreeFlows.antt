@@ -22,7 +22,7 @@ use Rattle.alias_sets.specs.declared.flows.Source.{Source}
 use Rattle.alias_sets.specs.declared.flows.Source.TheVariants as source'
 use Rattle.alias_sets.specs.declared.flows.Flow.{Flow}
 use Rattle.alias_sets.specs.Flows as text
-use Rattle.alias_sets.specs.Flows.{local_of, variable, variable_source, source_at, source, goes, passed, called, assigned, declared, perhaps_variable, stmt_flows, function_flows, flows}
+use Rattle.alias_sets.specs.Flows.{local_of, variable, variable_source, source_at, source, goes, passed, called, perhaps_variable, stmt_flows, function_flows, flows}
 use Rattle.alias_sets.specs.Points.{HasFlow, IsChain, MayHold, MayCome}
 use Rattle.access_summary.specs.declared.effects.Named.{Named}
 use Rattle.access_summary.specs.declared.effects.Named.TheVariants as named'

@@ -1,5 +1,5 @@
 -- Runs go along walks, and spare excluded cells.
-use Rattle.std.proofs.Common.{◌≡◌, ℕ, zero, suc, ◌<◌, ◌⊎◌, true, List, [], ◌∷◌, ◌++◌, Option, Some, None, inl, inr, refl, sym, ap, ◌∙◌, subst, arith, append_assoc}
+use Rattle.std.proofs.Common.{◌≡◌, ℕ, zero, suc, ◌<◌, ◌⊎◌, true, List, [], ◌∷◌, ◌++◌, None, inl, inr, refl, sym, ap, ◌∙◌, subst, append_assoc}
 use Rattle.std.specs.List.{Contains}
 use Rattle.ckpt_base.specs.Event.{Event, Checkpoint}
 use Rattle.ckpt_base.specs.Run.{Run}
@@ -17,7 +17,7 @@ use Rattle.flow_graph.specs.MainGraph.{IsMainGraph}
 use Rattle.flow_graph.specs.Run.{Graphs, Frame, Spot, spot, Step, Over, On, graphs_of, at_entry, after, run, enough_nodes, step}
 use Rattle.flow_graph.specs.Agreement.{AreCalls, Place, outside, wrote, moved, AgreeAt, StepsAgree, ComesTo}
 use Rattle.flow_graph.specs.RunWalks.{MayShow, ShowsAs, Shows, GoesAlong, GoesOnWalk}
-use Rattle.flow_graph.specs.Spared.{Between, IsSpared}
+use Rattle.flow_graph.specs.Spared.{IsSpared}
 use Rattle.flow_graph.proofs.Whole.{same_meaning}
 use Rattle.flow_graph.proofs.AgreeText.{nothing_more}
 use Rattle.flow_graph.proofs.AgreeCalls.{outside_node}
@@ -26,7 +26,6 @@ use Rattle.flow_graph.proofs.AgreeRuns.{step_agrees_at}
 use Rattle.flow_graph.proofs.AgreeFirst.{first_agrees}
 use Rattle.flow_graph.proofs.AgreeStays.{behind_same, stays}
 use Rattle.flow_graph.proofs.WalkEvents.{never_empty, InFirst, InSecond, stands_in, only_both, only_right, checkpoint_here, dead_forgettable, read_only_unwritten}
-use Rattle.flow_graph.proofs.ShowStores.{Stopped}
 use Rattle.flow_graph.proofs.ShowSteps.{StepShown, Went, StepShows, step_shows}
 
 module _ (g : effects.Graph) where
@@ -192,12 +191,12 @@ module _ (p : Resolved) (h : IsChecked p) (g : effects.Graph) (mg : IsMainGraph 
           onward b l x s ag n k t a d l' y u i st w z.agree nx.shown (trail b l' y u z.agree i nx.shown nx.there) (λ q v. go l' y u z.agree i q nx.shown nx.there v) is'
 
   module _ (input : List ℕ) (n c : ℕ) (lt : c < cell_count p) where
-    still_forgettable : (k t m u : ℕ) (b : List Event) → Between (meaning p input n).events (Checkpoint k t) b (Checkpoint m u) → (Contains (wrote b) c → ⊥) → IsForgettable g c k → IsForgettable g c m
-    still_forgettable k t m u b e unwritten f =
+    still_forgettable : (k t m u : ℕ) (a b d : List Event) → (meaning p input n).events ≡ a ++ Checkpoint k t ∷ (b ++ Checkpoint m u ∷ d) → IsForgettable g c k → (Contains (wrote b) c → ⊥) → IsForgettable g c m
+    still_forgettable k t m u a b d e f unwritten =
         let x = at_entry gs in
         let s = first_state p input in
-        let one = passed (enough_nodes x n) (outside x.node) x s (first_agrees p g input h) n k t e.0 (b ++ Checkpoint m u ∷ e.1) [] refl (sym (ap (λ (r : Run). r.events) (same_meaning p input n)) ∙ e.2) in
-        let two = passed one.fuel one.place (spot None one.next []) one.state one.agree one.rest m u b e.1 [] refl one.events in
+        let one = passed (enough_nodes x n) (outside x.node) x s (first_agrees p g input h) n k t a (b ++ Checkpoint m u ∷ d) [] refl (sym (ap (λ (r : Run). r.events) (same_meaning p input n)) ∙ e) in
+        let two = passed one.fuel one.place (spot None one.next []) one.state one.agree one.rest m u b d [] refl one.events in
         stays p h g mg one.place k one.next m one.state two.at two.steps one.rest two.left b c lt one.edge one.agree two.comes two.marked two.before unwritten f
 
     pub runs_spare : IsSpared g (meaning p input n).events c
@@ -205,6 +204,6 @@ module _ (p : Resolved) (h : IsChecked p) (g : effects.Graph) (mg : IsMainGraph 
         let w = runs_along input n in
         record {
           stays = still_forgettable;
-          dead = λ k m u b e none z. dead_forgettable g g.entry w.0 (meaning p input n).events w.1 k m u e.0 b e.1 e.2 none c z;
-          read_only = λ k m u b e none z. read_only_unwritten g g.entry w.0 (meaning p input n).events w.1 k m u e.0 b e.1 e.2 none c z;
+          dead = λ k m u a b d e none z. dead_forgettable g g.entry w.0 (meaning p input n).events w.1 k m u a b d e none c z;
+          read_only = λ k m u a b d e none z. read_only_unwritten g g.entry w.0 (meaning p input n).events w.1 k m u a b d e none c z;
         }

@@ -1,8 +1,8 @@
 -- What one step of a run shows, and where it leads in the walk of `main`.
-use Rattle.std.proofs.Common.{◌≡◌, ℕ, zero, suc, ◌<◌, ◌⊎◌, Bool, true, false, List, [], ◌∷◌, ◌++◌, length, Option, Some, None, Result, Ok, Err, inl, inr, refl, sym, ap, ◌∙◌, subst, arith}
+use Rattle.std.proofs.Common.{◌≡◌, ℕ, zero, suc, ◌<◌, ◌⊎◌, Bool, true, false, List, [], ◌∷◌, ◌++◌, length, Option, Some, None, Result, Ok, Err, inl, inr, refl, sym, ap, ◌∙◌, subst}
 use Rattle.std.specs.Prelude.{slice_get, nat_lt, if◌then◌else◌}
 use Rattle.std.proofs.lemmas.Bool.{and_parts, false≢true}
-use Rattle.std.proofs.lemmas.Option.{none-some, same_Some}
+use Rattle.std.proofs.lemmas.Option.{none-some}
 use Rattle.ckpt_base.specs.declared.trap.Trap.{Trap}
 use Rattle.ckpt_base.specs.declared.trap.Trap.TheVariants.{TooManyCalls}
 use Rattle.ckpt_base.specs.Trap.{trap_number}
@@ -17,7 +17,7 @@ use Rattle.c_tree.specs.declared.resolved.Resolved.{Resolved}
 use Rattle.c_tree.specs.Layout.{cell_count}
 use Rattle.c_tree.specs.Kinds.{is_variable, stores, call_kind}
 use Rattle.c_tree.specs.Checked.{IsChecked, in_function}
-use Rattle.c_tree.specs.State.{State, Action, value, values, declare, set as assign, store, put, write_out, take_from, take, input, exclude, checkpoint, ticked, with_event, with_locals, entry_locals}
+use Rattle.c_tree.specs.State.{State, Action, value, values, declare, set as assign, store, put, write_out, take_from, take, input, exclude, checkpoint, ticked, with_event, with_locals}
 use Rattle.c_tree.specs.Meaning.{over}
 use Rattle.path_laws.specs.declared.graph.Mark.{Mark}
 use Rattle.path_laws.specs.declared.graph.Mark.TheVariants as mark'
@@ -37,17 +37,17 @@ use Rattle.flow_graph.specs.NodeEffects.{work_effects}
 use Rattle.flow_graph.specs.MainGraph.{mark, main_of, IsMainGraph}
 use Rattle.flow_graph.specs.Run as r
 use Rattle.flow_graph.specs.Run.{Graph, Waits, Store, Return, Frame, Spot, spot, Step, Over, On, Steps, graphs_of, graph_at, edge_in, work_in, given, goes, ticks, resumes, answers, enters, made, does, does_node, step, nowhere}
-use Rattle.flow_graph.specs.Agreement.{IsCallOf, AreCalls, Place, IsOutside, Counts, AreAlike, KeepsPointers, AgreeAt}
-use Rattle.flow_graph.specs.RunWalks.{ShowsOnly, MayShow, ShowsAs, Shows}
+use Rattle.flow_graph.specs.Agreement.{AreCalls, Place, Counts, AreAlike, KeepsPointers, AgreeAt}
+use Rattle.flow_graph.specs.RunWalks.{MayShow, ShowsAs, Shows}
 use Rattle.flow_graph.proofs.WorkRuleLaws.{all_at, function_works_keep}
 use Rattle.flow_graph.proofs.Joins.{graph_is_joined}
 use Rattle.flow_graph.proofs.AgreeText.{nothing_more}
-use Rattle.flow_graph.proofs.AgreeValues.{touches_left, touches_right}
+use Rattle.flow_graph.proofs.AgreeValues.{touches_right}
 use Rattle.flow_graph.proofs.AgreeFlows.{IsNodeOf}
 use Rattle.flow_graph.proofs.AgreeStores.{ticked_alike, ticked_keeps}
 use Rattle.flow_graph.proofs.AgreeCalls.{IsWorkOf, node_of, work_of, outside_node, edge_there, node_counts, node_writes}
-use Rattle.flow_graph.proofs.AgreeAnswers.{store_call, return_call, CallAt, call_at, main_below}
-use Rattle.flow_graph.proofs.ShowStores.{Showed, Stopped, ShowedBy, nothing, showed_then, then_by, put_shows, print_shows, May, may_right, variable_shows, set_shows, declare_shows}
+use Rattle.flow_graph.proofs.AgreeAnswers.{store_call, CallAt, call_at, main_below}
+use Rattle.flow_graph.proofs.ShowStores.{Showed, Stopped, ShowedBy, nothing, showed_then, then_by, put_shows, print_shows, May, variable_shows, set_shows, declare_shows}
 
 -- ---- what a step shows
 

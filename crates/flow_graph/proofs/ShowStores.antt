@@ -1,5 +1,5 @@
 -- What single statements show.
-use Rattle.std.proofs.Common.{◌≡◌, ℕ, ◌+◌, ◌-◌, ◌<◌, Bool, true, false, cond, List, [], ◌∷◌, ◌++◌, map, length, Option, Some, None, Result, Ok, Err, inl, inr, refl, sym, ap, ◌∙◌, subst, arith, append_assoc}
+use Rattle.std.proofs.Common.{◌≡◌, ℕ, ◌+◌, ◌-◌, ◌<◌, Bool, true, false, cond, List, [], ◌∷◌, ◌++◌, map, length, Option, Some, None, Result, Ok, Err, inl, inr, refl, sym, ap, ◌∙◌, arith, append_assoc}
 use Rattle.std.specs.Prelude.{slice_get, slice_set, is_some}
 use Rattle.std.specs.Option.{option_map}
 use Rattle.std.proofs.lemmas.Bool.{cases_lt, and_parts, false≢true, le-ltb}
@@ -25,12 +25,12 @@ use Rattle.access_summary.specs.declared.effects.Target.TheVariants as touch
 use Rattle.access_summary.specs.declared.touch.Access.TheVariants as access'
 use Rattle.access_summary.specs.Effects as reads
 use Rattle.access_summary.specs.Effects.{seen, expr_effects, stored}
-use Rattle.access_summary.specs.Touch.{MayTouch, Touches}
+use Rattle.access_summary.specs.Touch.{Touches}
 use Rattle.flow_graph.specs.Agreement.{AreAlike, KeepsPointers}
 use Rattle.flow_graph.specs.RunWalks.{ShowsOnly}
 use Rattle.flow_graph.proofs.AgreeText.{nothing_more}
-use Rattle.flow_graph.proofs.AgreeObjects.{file_within, cell_found}
-use Rattle.flow_graph.proofs.AgreeValues.{IsWorldOf, touched, touches_left, touches_right, Right, right, pointed_there}
+use Rattle.flow_graph.proofs.AgreeObjects.{cell_found}
+use Rattle.flow_graph.proofs.AgreeValues.{IsWorldOf, touched, touches_left, Right, right, pointed_there}
 use Rattle.flow_graph.proofs.AgreeFlows.{agree_some}
 use Rattle.flow_graph.proofs.EffectLaws.{lies_within}
 use Rattle.flow_graph.proofs.WalkEvents.{only_both}
@@ -101,9 +101,6 @@ module _ (p : Resolved) (f : Option ℕ) (w : World) (world : IsWorldOf p f w) (
   -- what these effects write passes
   abbrev pub May : List Effect → Type 0
   May es = (c : ℕ) → c < cell_count p → Touches p access'.Write es c → P c
-
-  pub may_right : (xs ys : List Effect) → May (xs ++ ys) → May ys
-  may_right xs ys m c lt t = m c lt (touches_right p access'.Write xs ys c t)
 
   there_is : (o : Option Bool) → is_some o ≡ true → (b : Bool) × (o ≡ Some b)
   there_is None e = absurd (false≢true e)

@@ -1,5 +1,5 @@
 -- What walks that show events promise of them.
-use Rattle.std.proofs.Common.{◌≡◌, ℕ, ◌<◌, ◌⊎◌, true, false, List, [], ◌∷◌, ◌++◌, length, Option, Some, None, inl, inr, ⊎_elim, refl, sym, ap, ◌∙◌, subst, arith}
+use Rattle.std.proofs.Common.{◌≡◌, ℕ, ◌<◌, ◌⊎◌, true, false, List, [], ◌∷◌, ◌++◌, length, Option, Some, None, inl, inr, ⊎_elim, refl, sym, ap, ◌∙◌, subst}
 use Rattle.std.specs.Prelude.{slice_get}
 use Rattle.std.specs.Option.{option_map_or}
 use Rattle.std.specs.List.{Contains}
@@ -15,7 +15,7 @@ use Rattle.path_laws.specs.Walks.{IsWalkFrom, NoExclude, last_of}
 use Rattle.path_laws.specs.Forgettable.{IsForgettable}
 use Rattle.exclusion_equations.specs.Excluded.{Leads, IsDead, WritesBefore, IsReadOnly}
 use Rattle.flow_graph.specs.Agreement.{wrote}
-use Rattle.flow_graph.specs.RunWalks.{ShowsOnly, MayShow, ShowsAs, Shows, GoesAlong}
+use Rattle.flow_graph.specs.RunWalks.{ShowsOnly, MayShow, ShowsAs, GoesAlong}
 use Rattle.flow_graph.specs.Spared.{NoneExcluded}
 use Rattle.flow_graph.proofs.AgreeStores.{nothing_there, wrote_both}
 

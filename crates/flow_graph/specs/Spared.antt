@@ -16,14 +16,12 @@ NoneExcluded (Byte b ∷ es) = NoneExcluded es
 NoneExcluded (Took ∷ es) = NoneExcluded es
 NoneExcluded (Checkpoint m t ∷ es) = NoneExcluded es
 
--- these events stand between events x and y
-abbrev pub Between : List Event → Event → List Event → Event → Type 0
-Between es x b y = (a : List Event) × (d : List Event) × (es ≡ a ++ x ∷ (b ++ y ∷ d))
-
 -- For these events and cell c: what is forgettable at a checkpoint is so at each later one until it is written. What is dead after a directive is
 -- forgettable at each checkpoint before the next directive, and what is read-only after it is not written on the way there.
 pub record IsSpared (g : Graph) (es : List Event) (c : ℕ) : Type 0 where
-  pub stays : (k t m u : ℕ) (b : List Event) → Between es (Checkpoint k t) b (Checkpoint m u)
-      → (Contains (wrote b) c → ⊥) → IsForgettable g c k → IsForgettable g c m
-  pub dead : (k m u : ℕ) (b : List Event) → Between es (Excluded k) b (Checkpoint m u) → NoneExcluded b → IsDead g k c → IsForgettable g c m
-  pub read_only : (k m u : ℕ) (b : List Event) → Between es (Excluded k) b (Checkpoint m u) → NoneExcluded b → IsReadOnly g k c → Contains (wrote b) c → ⊥
+  pub stays : (k t m u : ℕ) (a b d : List Event) → es ≡ a ++ Checkpoint k t ∷ (b ++ Checkpoint m u ∷ d)
+      → IsForgettable g c k → (Contains (wrote b) c → ⊥) → IsForgettable g c m
+  pub dead : (k m u : ℕ) (a b d : List Event) → es ≡ a ++ Excluded k ∷ (b ++ Checkpoint m u ∷ d)
+      → NoneExcluded b → IsDead g k c → IsForgettable g c m
+  pub read_only : (k m u : ℕ) (a b d : List Event) → es ≡ a ++ Excluded k ∷ (b ++ Checkpoint m u ∷ d)
+      → NoneExcluded b → IsReadOnly g k c → Contains (wrote b) c → ⊥

@@ -3,7 +3,7 @@
 //! What keeps a memory beside a run, as images do, needs no more of the analysis than these: which cells a run may have written at a node, and that
 //! the excluded sets keep what they promise.
 
-ghost use Rattle.std.specs.Prelude.{◌≡◌, ℕ, ◌<◌, List};
+ghost use Rattle.std.specs.Prelude.{ℕ, ◌<◌, List};
 ghost use Rattle.path_laws.specs.Graph as effects;
 ghost use Rattle.c_tree.specs.declared.resolved.Resolved.{Resolved};
 ghost use Rattle.c_tree.specs.Layout.{cell_count};

@@ -4,7 +4,8 @@
 //! `access_summary`). `specs/Run` says what a run does node after node, and `graphs_mean_their_programs` that it is what the source means.
 //!
 //! [`graph`] makes the graphs of all functions, and beside them that of `main` with the cells that each node may read, may write, and
-//! kills (`specs/MainGraph`, [`node_sets`]), on which the excluded sets rest.
+//! kills (`specs/MainGraph`, [`node_sets`]), on which the excluded sets rest. [`runs_go_along_walks`] ties these effects to runs, by their events
+//! alone, and [`runs_spare_excluded_cells`] the excluded sets.
 #![tactic(auto)]
 
 mod agreement;
