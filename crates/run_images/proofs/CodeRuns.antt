@@ -10,7 +10,6 @@ use Rattle.c_tree.specs.declared.resolved.Resolved.{Resolved}
 use Rattle.c_tree.specs.Checked.{IsChecked}
 use Rattle.c_tree.specs.State.{State, first_state}
 use Rattle.c_tree.specs.Meaning.{meaning}
-use Rattle.access_summary.specs.Edges.{Edge}
 use Rattle.flow_graph.specs.declared.node.NodeWork.{NodeWork}
 use Rattle.flow_graph.specs.declared.node.NodeWork.TheVariants as work
 use Rattle.flow_graph.specs.Run.{Graphs, spot, graphs_of, graph_run, at_entry, does_node, after, run, edge_in, work_in}
@@ -120,7 +119,7 @@ stops_in laws ends p c q u w node n more r checked means start outside reaches l
 -- ---- a run with no tick
 
 -- a node shows nothing before its tick
-none_before : (gs : Graphs) (m : ℕ) (s : State) (e : Option Edge) (w : Option NodeWork) → (after (run gs 0) (does_node gs (spot None m []) e w s 0)).events ≡ s.events
+none_before : (gs : Graphs) (m : ℕ) (s : State) (e : Option (Option ℕ × Option ℕ)) (w : Option NodeWork) → (after (run gs 0) (does_node gs (spot None m []) e w s 0)).events ≡ s.events
 none_before gs m s None w = refl
 none_before gs m s (Some to) None = refl
 none_before gs m s (Some to) (Some (work.Declare p e)) = refl

@@ -26,6 +26,8 @@ pub mod SinceLaws
 pub mod CodeRuns
 -- lives go like their source
 pub mod AlikeLaws
+-- what a resumed life holds before its first instruction
+pub mod EntryLaws
 -- what a life shows, and the images that it takes
 pub mod LifeLaws
 -- a life ends as its source

@@ -23,6 +23,7 @@ pub use image_laws::{
 pub use life_laws::{
     begun_lives_are_of_their_source, images_of_lives_stand, lives_end_as_their_source,
     lives_show_what_their_source_shows, resumed_lives_are_of_their_source,
+    resumed_lives_hold_their_records,
 };
 pub use store_laws::{
     chains_keep_standing, empty_stores_stand, images_are_not_lost, kept_chains_stand,

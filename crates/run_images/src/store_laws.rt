@@ -31,7 +31,8 @@ pub fn empty_stores_stand()
 
 /// The records that opening a standing store finds stand for its source.
 pub fn kept_chains_stand()
-    ensures law { (s : Source) (c : Store) (found : Found) → Stands s c → chain_in c ≡ Ok (Some found) → StandsFor s found.header.every found.records c.output }
+    ensures law { (s : Source) (c : Store) (found : Found) → Stands s c → chain_in c ≡ Ok (Some found)
+        → StandsFor s found.header.every found.records c.output }
 {}
 
 /// A standing store needs no more of the output than its newest image says.
@@ -59,7 +60,8 @@ pub fn outputs_grow_behind()
 
 /// Records that stand with the bytes that last stand with more bytes, of which more last.
 pub fn standing_records_stay()
-    ensures law { (s : Source) (every n m : ℕ) (bytes more : List ℕ) (rs : List Image) → n ≤ m → n ≤ length bytes → StandWith s every n bytes rs → StandWith s every m (bytes ++ more) rs }
+    ensures law { (s : Source) (every n m : ℕ) (bytes more : List ℕ) (rs : List Image) → n ≤ m → n ≤ length bytes → StandWith s every n bytes rs
+        → StandWith s every m (bytes ++ more) rs }
 {}
 
 // ---- calls of the chain
@@ -67,9 +69,11 @@ pub fn standing_records_stay()
 /// What a crash may leave in a call of a chain that stands, stands: in one that keeps its records; in an append of a record that follows them, where they
 /// stand with it too; and in a joining.
 pub fn chains_keep_standing()
-    ensures kept { (s : Source) (n : ℕ) (bytes : List ℕ) (chain : Current) (rs : List Image) (old new : Store) → ChainStands s n bytes chain rs old → IsKept chain rs old new → StandsWithin s n new }
+    ensures kept { (s : Source) (n : ℕ) (bytes : List ℕ) (chain : Current) (rs : List Image) (old new : Store) → ChainStands s n bytes chain rs old
+        → IsKept chain rs old new → StandsWithin s n new }
     ensures appended { (s : Source) (n : ℕ) (bytes : List ℕ) (chain : Current) (rs : List Image) (old new : Store) → ChainStands s n bytes chain rs old
-        → (r : Image) → broken_field (newest_of None rs) r.fields ≡ None → StandWith s chain.every n bytes (rs ++ r ∷ []) → IsAppended chain rs r old new → StandsWithin s n new }
+        → (r : Image) → broken_field (newest_of None rs) r.fields ≡ None → StandWith s chain.every n bytes (rs ++ r ∷ []) → IsAppended chain rs r old new
+        → StandsWithin s n new }
     ensures replaced { (s : Source) (n : ℕ) (bytes : List ℕ) (chain : Current) (rs : List Image) (old new : Store) → ChainStands s n bytes chain rs old
         → (r : Image) → Joins rs r → IsReplaced chain rs r old new → StandsWithin s n new }
 {}
@@ -77,7 +81,8 @@ pub fn chains_keep_standing()
 /// No image is lost: where an earlier outcome had image j or a later one, so has what a crash may leave in a call of the output, and in one of the chain.
 pub fn images_are_not_lost()
     ensures behind { (j n : ℕ) (old new : Store) → IsLater j old → IsBehind n old new → IsLater j new }
-    ensures kept { (j : ℕ) (chain : Current) (rs : List Image) (old new : Store) → IsLater j old → Lists chain rs old → IsKept chain rs old new → IsLater j new }
+    ensures kept { (j : ℕ) (chain : Current) (rs : List Image) (old new : Store) → IsLater j old → Lists chain rs old → IsKept chain rs old new
+        → IsLater j new }
     ensures appended { (j : ℕ) (chain : Current) (rs : List Image) (old new : Store) → IsLater j old → Lists chain rs old
         → (r : Image) → broken_field (newest_of None rs) r.fields ≡ None → IsAppended chain rs r old new → IsLater j new }
     ensures replaced { (j : ℕ) (chain : Current) (rs : List Image) (old new : Store) → IsLater j old → Lists chain rs old
