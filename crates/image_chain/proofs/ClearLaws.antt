@@ -19,7 +19,7 @@ blank_held : IsHeldHeader blank_header
 blank_held = record { generation = omega arith; every = omega arith; ranges = record { generation = omega arith; every = omega arith; max_least = omega arith; max_most = omega arith } }
 
 -- the header of a blank file, whose gate is not open
-header_of_blank : (f : DiskFile) (bytes : List ℕ) → bytes ≡ blank → header_in f bytes ≡ Ok (Some (record { generation = 1; every = 1; max = 16; gate_open = is_open 0 }))
+pub header_of_blank : (f : DiskFile) (bytes : List ℕ) → bytes ≡ blank → header_in f bytes ≡ Ok (Some (record { generation = 1; every = 1; max = 16; gate_open = is_open 0 }))
 header_of_blank f bytes is = ap (header_in f) is ∙ header_back f blank_header 0 [] blank_held
 
 none_in_blank : (s : Store) → IsBlank s → chain_in s ≡ Ok None
