@@ -1,4 +1,4 @@
-use Rattle.std.proofs.Common.{◌≡◌, ◌∙◌, ap, subst, sym}
+use Rattle.std.proofs.Common.{◌∙◌, ap, subst, sym}
 use Rattle.disk_model.specs.Store.{file_of}
 use Rattle.image_chain.specs.declared.chain.Span.{Span}
 use Rattle.image_chain.specs.ChainView.{ChainView}

@@ -1,5 +1,4 @@
-use Rattle.std.proofs.Common.{◌≡◌, ◌∙◌, ap, subst, sym, ◌≤◌, IsTrue, List, [], ℕ}
-use Rattle.image_chain.specs.declared.chain.Current.{Current}
+use Rattle.std.proofs.Common.{◌∙◌, ap, subst, sym, ◌≤◌, IsTrue, List, [], ℕ}
 use Rattle.image_chain.specs.ChainView.{ChainView}
 use Rattle.image_chain.specs.Append.{IsAtRest}
 use Rattle.image_chain.proofs.ReplaceLaws.{kept_replaced, replaced_twice, stands}
