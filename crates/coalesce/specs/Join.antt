@@ -4,7 +4,7 @@ use Rattle.ckpt_base.specs.declared.errors.Failed.{Failed}
 use Rattle.disk_model.specs.View.{View}
 use Rattle.disk_model.specs.Moments.{Among, LeavesOnly}
 use Rattle.image_format.specs.Image.{Image}
-use Rattle.image_chain.specs.declared.chain.Chain.{Chain}
+use Rattle.image_chain.specs.ChainView.{ChainView}
 use Rattle.image_chain.specs.Records.{newest_of}
 use Rattle.image_chain.specs.Memory.{Joined, memory, kept_word}
 use Rattle.image_chain.specs.Lists.{Rests}
@@ -20,7 +20,7 @@ pub record Joins (rs : List Image) (image : Image) : Type 0 where
   pub words : (c : ℕ) → memory (image ∷ []) c ≡ memory rs c
 
 -- What a joining promises: one record joins the records, a crash leaves the records or it, and after Ok it stands for good.
-pub record Joining (before after : Chain) (rs : List Image) (result : Result (Unit {0}) Failed) (old new : View) : Type 0 where
+pub record Joining (before after : ChainView) (rs : List Image) (result : Result (Unit {0}) Failed) (old new : View) : Type 0 where
   pub image : Image
   pub joins : Joins rs image
   pub moments : LeavesOnly old new (Among old.may_leave (IsReplaced before.current rs image))

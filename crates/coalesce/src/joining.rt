@@ -18,8 +18,8 @@ use image_chain::{Chain, Kept, Step};
 /// fields, to the other image file, and makes that file current. No record is under way.
 ///
 /// `kept` is the joined content, and `out` has room for the greatest record, 2,097,269 bytes. At each moment a crash leaves the old
-/// records or the one; after `Ok` the one for good. After `Failed` the chain is spent. `out` and `runs` hold anything then, and
-/// have their room.
+/// records or the one, and the file of the old records as it was; after `Ok` the one for good. After `Failed` the chain is spent. `out`
+/// and `runs` hold anything then, and have their room.
 pub fn join<D: Disk>(
     chain: &mut Chain,
     disk: &mut D,

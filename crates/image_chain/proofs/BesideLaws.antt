@@ -1,13 +1,11 @@
 -- A chain beside calls on other files.
-use Rattle.std.proofs.Common.{◌≡◌, ◌≢◌, refl, sym, ◌∙◌, subst, ℕ, List, length}
+use Rattle.std.proofs.Common.{◌≢◌, refl, sym, ◌∙◌, subst, ℕ, List, length}
 use Rattle.disk_model.specs.declared.disk_file.DiskFile.{DiskFile}
 use Rattle.disk_model.specs.declared.disk_file.DiskFile.TheVariants.{Output, One, Two}
-use Rattle.disk_model.specs.Store.{Store, file_of}
 use Rattle.disk_model.specs.View.{View, SameFile}
 use Rattle.image_format.specs.Image.{Image}
 use Rattle.image_chain.specs.declared.chain.Current.{Current}
 use Rattle.image_chain.specs.declared.chain.Step.{Step}
-use Rattle.image_chain.specs.declared.chain.Step.TheVariants.{Piece, SyncRecord, OpenGate, SyncGate, Done}
 use Rattle.image_chain.specs.Append.{Alone, IsAside, IsAtRest, IsDue, LeftAt, ReadsAt, front, other}
 use Rattle.image_chain.specs.Lists.{ImagesStay}
 use Rattle.image_chain.proofs.StepLaws.{other_image}

@@ -1,16 +1,15 @@
 -- A store that is cleared.
-use Rattle.std.proofs.Common.{◌≡◌, ◌⊎◌, ◌≢◌, inl, inr, ⊎_elim, refl, sym, ◌∙◌, ap, subst, ℕ, ◌+◌, IsTrue, List, [], ◌∷◌, ◌++◌, Some, None, Result, Ok, Err, arith}
+use Rattle.std.proofs.Common.{◌≡◌, inl, inr, ⊎_elim, refl, sym, ◌∙◌, ap, subst, ℕ, IsTrue, List, [], Some, None, Result, Ok, arith}
 use Rattle.disk_model.specs.declared.disk_file.DiskFile.{DiskFile}
 use Rattle.disk_model.specs.declared.disk_file.DiskFile.TheVariants.{Output, One, Two}
-use Rattle.disk_model.specs.Store.{Store, file_of, with_file}
-use Rattle.disk_model.specs.Change.{Start, Crashed}
+use Rattle.disk_model.specs.Store.{Store}
+use Rattle.disk_model.specs.Change.{Start}
 use Rattle.disk_model.specs.View.{View, IsDisk, On, IsMade, Changes, SameFile}
 use Rattle.disk_model.specs.Moments.{Among, LeavesOnly}
 use Rattle.disk_model.proofs.Calls.{changed, still, after_change, others_stay, stays_twice}
-use Rattle.image_format.specs.declared.header.Header.{Header}
 use Rattle.image_format.specs.Image.{IsHeldHeader}
 use Rattle.image_format.specs.Spelling.{is_open}
-use Rattle.image_chain.specs.Records.{header_in, only_open, newer, chain_in}
+use Rattle.image_chain.specs.Records.{header_in, chain_in}
 use Rattle.image_chain.specs.Clear.{blank, blank_header, IsBlank, IsClearing, IsCleared}
 use Rattle.image_chain.proofs.ListLaws.{header_back, current_is}
 use Rattle.image_chain.proofs.OutputLaws.{one_aside, two_aside}
@@ -19,7 +18,7 @@ blank_held : IsHeldHeader blank_header
 blank_held = record { generation = omega arith; every = omega arith; ranges = record { generation = omega arith; every = omega arith; max_least = omega arith; max_most = omega arith } }
 
 -- the header of a blank file, whose gate is not open
-header_of_blank : (f : DiskFile) (bytes : List ℕ) → bytes ≡ blank → header_in f bytes ≡ Ok (Some (record { generation = 1; every = 1; max = 16; gate_open = is_open 0 }))
+pub header_of_blank : (f : DiskFile) (bytes : List ℕ) → bytes ≡ blank → header_in f bytes ≡ Ok (Some (record { generation = 1; every = 1; max = 16; gate_open = is_open 0 }))
 header_of_blank f bytes is = ap (header_in f) is ∙ header_back f blank_header 0 [] blank_held
 
 none_in_blank : (s : Store) → IsBlank s → chain_in s ≡ Ok None

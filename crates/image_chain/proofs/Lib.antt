@@ -4,6 +4,8 @@ pub mod ListLaws
 pub mod StepLaws
 -- the output file stays as it was
 pub mod OutputLaws
+-- how far an append has come
+pub mod LoopWords
 -- an append goes on from step to step
 pub mod LoopLaws
 -- a chain that begins, and one that is settled
@@ -32,3 +34,5 @@ pub mod OrderLaws
 pub mod ClearLaws
 -- a chain that is found, and the files that it is found in
 pub mod FoundLaws
+-- the last of some records
+pub mod LastLaws

@@ -13,8 +13,9 @@ use Rattle.image_format.specs.Image.{Image}
 use Rattle.image_chain.specs.declared.chain.Current.{Current}
 use Rattle.image_chain.specs.declared.chain.Step.{Step}
 use Rattle.image_chain.specs.declared.chain.Step.TheVariants.{Piece, SyncRecord, OpenGate, SyncGate, Done}
-use Rattle.image_chain.specs.Append.{header_of, front, other, Keeps, Alone, IsAtRest, IsDue, IsDueNext, Spells, IsInside, IsInsideOrDone, SameCurrent, TakesOver, IfLast, next_of, due_after, left_to_do}
-use Rattle.image_chain.specs.Lists.{Lists, IsAppended, IsLeftIn, Makes, SoFar}
+use Rattle.image_chain.specs.Append.{header_of, front, other, Keeps, Alone, IsAtRest, IsDue, IsDueNext, Spells, IsInside, SameCurrent, TakesOver, IfLast, next_of, due_after}
+use Rattle.image_chain.specs.Lists.{Lists, IsAppended, IsLeftIn, Makes}
+use Rattle.image_chain.proofs.LoopWords.{IsInsideOrDone, left_to_do, SoFar}
 use Rattle.image_chain.proofs.ListLaws.{Holds, holds_of, lists_of}
 use Rattle.image_chain.proofs.OutputLaws.{same_output}
 use Rattle.image_chain.proofs.StepLaws.{IsBefore, front_and_gate, current_twice, kept_gate, torn_list, aside_more, reads_list, reads_more}

@@ -24,7 +24,7 @@ use Rattle.image_chain.specs.Sound.{IsNumbered}
 use Rattle.image_chain.specs.Lists.{found_of, Rests}
 use Rattle.image_chain.specs.Looking.{IsDamage, OnlyLooked}
 use Rattle.image_chain.specs.Walk.{Walked, IsRead, IsReadFrom, IsFound, IsOpened, opened_as}
-use Rattle.image_chain.specs.declared.chain.Chain.{Chain}
+use Rattle.image_chain.specs.ChainView.{ChainView}
 use Rattle.image_chain.specs.declared.chain.Step.TheVariants.{Piece}
 use Rattle.image_chain.proofs.ListLaws.{current_is}
 use Rattle.image_chain.proofs.StartLaws.{ok_step, none_current}
@@ -236,7 +236,7 @@ second_is s mid two same is = ap (λ (x : Store). header_in Two x.two) (sym same
 pub second_damage : (s mid : Store) (e : ChainFault) → mid ≡ s → IsDamage e (header_in Two mid.two) → IsDamage e (header_in Two s.two)
 second_damage s mid e same is = subst (λ (x : Store). IsDamage e (header_in Two x.two)) same is
 
-pub read_from : (chain : Chain) (kept : Joined) (rs : List Image) (s : Store) (one two : Option Header) (c : DiskFile × Header) → IsCurrent one two s.one s.two c → chain.current.file ≡ c.0 → header_of chain.current ≡ c.1 → chain.due ≡ Piece 0 → IsRead chain.current kept rs (file_of c.0 s)
+pub read_from : (chain : ChainView) (kept : Joined) (rs : List Image) (s : Store) (one two : Option Header) (c : DiskFile × Header) → IsCurrent one two s.one s.two c → chain.current.file ≡ c.0 → header_of chain.current ≡ c.1 → chain.due ≡ Piece 0 → IsRead chain.current kept rs (file_of c.0 s)
     → IsReadFrom chain kept rs s
 read_from chain kept rs s one two c current file header due read = record {
   due = due;
@@ -274,7 +274,7 @@ other_file_is Output s c has = has.one
 other_file_is One s c has = has.two
 other_file_is Two s c has = has.one
 
-pub opened_rests : (chain : Chain) (kept : Joined) (rs : List Image) (s : Store) (v : View) → IsReadFrom chain kept rs s → v.seen ≡ s → ((c : Store) → v.may_leave c → HasFiles s c) → Rests chain v rs
+pub opened_rests : (chain : ChainView) (kept : Joined) (rs : List Image) (s : Store) (v : View) → IsReadFrom chain kept rs s → v.seen ≡ s → ((c : Store) → v.may_leave c → HasFiles s c) → Rests chain v rs
 opened_rests chain kept rs s v from seen lasting =
     let f = chain.current.file in
     let read = from.read in (
@@ -331,6 +331,6 @@ after_looked old mid new P so_far looked = record {
     q : IsTrue old.tells_past → IsTrue mid.tells_past
     q p = subst IsTrue (sym so_far.tells_past) p
 
-pub opened_all : (found : Option Chain) (kept : Joined) (rs : List Image) (s : Store) (v : View) → chain_in s ≡ Ok (opened_as found rs) → IsFound found kept rs s → v.seen ≡ s → ((c : Store) → v.may_leave c → HasFiles s c) → IsOpened found kept rs v
+pub opened_all : (found : Option ChainView) (kept : Joined) (rs : List Image) (s : Store) (v : View) → chain_in s ≡ Ok (opened_as found rs) → IsFound found kept rs s → v.seen ≡ s → ((c : Store) → v.may_leave c → HasFiles s c) → IsOpened found kept rs v
 opened_all None kept rs s v is from seen lasting = λ c left. none_stays s c is (lasting c left)
 opened_all (Some chain) kept rs s v is from seen lasting = (opened_rests chain kept rs s v from seen lasting, from.read.words)

@@ -18,6 +18,9 @@ one_aside e = cc
 pub two_aside : Two ≢ Output
 two_aside e = cc
 
+pub not_two : One ≢ Two
+not_two e = cc
+
 -- a change of the file of a chain
 pub step_output : {T E : Type 0} (chain : Current) (old new : View) (rs : List Image) (change : Change) (result : Result T E) → IsTrue old.tells → Alone chain old rs → Changes chain.file change result old new → SameFile Output old new
 step_output chain old new rs change result tells alone call = others_stay chain.file Output change result old new alone.image_file tells call

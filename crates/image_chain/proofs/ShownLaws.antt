@@ -10,7 +10,7 @@ use Rattle.image_format.specs.Spelling.{text, spelling, image_length}
 use Rattle.image_format.specs.Reading.{image_at}
 use Rattle.image_format.proofs.RecordLaws.{text_length, image_short}
 use Rattle.image_format.proofs.ViewLaws.{image_only}
-use Rattle.image_chain.specs.declared.chain.Chain.{Chain}
+use Rattle.image_chain.specs.ChainView.{ChainView}
 use Rattle.image_chain.specs.declared.chain.Span.{Span}
 use Rattle.image_chain.specs.Append.{header_of, head, chained, chained_length, spans_of}
 use Rattle.image_chain.specs.Lists.{Rests}
@@ -61,7 +61,7 @@ is_short r is = (let short = image_short r is in omega arith)
 stands_by : (s : Span) (at : ℕ) (r : Image) (file : List ℕ) → s ≡ span at (image_length r) → image_length r ≤ 3145837 → image_at (take (image_length r) (drop at file)) ≡ Ok r → StandsAt s r file
 stands_by s at r file same short text_is = subst (λ (x : Span). StandsAt x r file) (sym same) (record { size = refl; short = short; text = text_is })
 
-pub stands : (chain : Chain) (v : View) (i : ℕ) (before : List Image) (r : Image) (after : List Image) → length before ≡ i → Rests chain v (before ++ r ∷ after) → StandsAt (span_at chain i) r (file_of chain.current.file v.seen)
+pub stands : (chain : ChainView) (v : View) (i : ℕ) (before : List Image) (r : Image) (after : List Image) → length before ≡ i → Rests chain v (before ++ r ∷ after) → StandsAt (span_at chain i) r (file_of chain.current.file v.seen)
 stands chain v i before r after place rests =
     let rest = rests.1.1 in
     let keeps = rest.keeps in

@@ -1,5 +1,5 @@
 -- What an append leaves in the file, call by call.
-use Rattle.std.specs.Prelude.{◌≡◌, ◌≢◌, ℕ, ◌+◌, ◌-◌, ◌*◌, ◌<◌, ◌≤◌, nat_lt, true, if◌then◌else◌, List, [], ◌∷◌, ◌++◌, length, take, Option, Some, None, Ok}
+use Rattle.std.specs.Prelude.{◌≡◌, ◌≢◌, ℕ, ◌+◌, ◌*◌, ◌<◌, ◌≤◌, nat_lt, true, if◌then◌else◌, List, [], ◌∷◌, ◌++◌, length, take, Option, Some, None, Ok}
 use Rattle.std.specs.List.{AllByRecursion}
 use Rattle.std.specs.Int.{w16, w32, div_ceil, to_be_bytes}
 use Rattle.disk_model.specs.declared.disk_file.DiskFile.{DiskFile}
@@ -180,22 +180,6 @@ SameCurrent SyncRecord old new = new ≡ old
 SameCurrent OpenGate old new = new ≡ old
 SameCurrent SyncGate old new = Unit {0}
 SameCurrent Done old new = new ≡ old
-
--- while a step is due, or none is left
-abbrev pub IsInsideOrDone : Step → ℕ → Type 0
-IsInsideOrDone (Piece i) n = 4096 * i < n
-IsInsideOrDone SyncRecord n = Unit {0}
-IsInsideOrDone OpenGate n = Unit {0}
-IsInsideOrDone SyncGate n = Unit {0}
-IsInsideOrDone Done n = Unit {0}
-
--- the calls that are left, as a number that falls
-abbrev pub left_to_do : Step → ℕ → ℕ
-left_to_do (Piece i) n = 4 + (n - 4096 * i)
-left_to_do SyncRecord n = 3
-left_to_do OpenGate n = 2
-left_to_do SyncGate n = 1
-left_to_do Done n = 0
 
 -- The chain has taken the record over: one record more, and it is the newest.
 pub record TakesOver (old new : Current) (image : List ℕ) : Type 0 where

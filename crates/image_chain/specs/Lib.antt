@@ -6,6 +6,8 @@ pub mod Files
 pub mod Memory
 -- what a chain keeps of its file, whatever its disk tells
 pub mod Sound
+-- what contracts see of a chain
+pub mod ChainView
 -- what an append leaves in the file, call by call
 pub mod Append
 -- what a crash leaves of the chain at each moment

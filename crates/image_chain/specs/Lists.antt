@@ -9,7 +9,7 @@ use Rattle.disk_model.specs.Moments.{Among, LeavesOnly}
 use Rattle.image_format.specs.declared.header.Header.{Header}
 use Rattle.image_format.specs.Image.{Image}
 use Rattle.image_chain.specs.declared.chain.Current.{Current}
-use Rattle.image_chain.specs.declared.chain.Chain.{Chain}
+use Rattle.image_chain.specs.ChainView.{ChainView}
 use Rattle.image_chain.specs.declared.chain.Step.{Step}
 use Rattle.image_chain.specs.declared.chain.Step.TheVariants.{Piece, SyncRecord, OpenGate, SyncGate, Done}
 use Rattle.image_chain.specs.Records.{Found, chain_in}
@@ -67,23 +67,17 @@ abbrev pub Makes : Current → Current → List ℕ → Step → Result Step Fai
 Makes before after image at result old new = IsTrue old.tells → (rs : List Image) (r : Image) → Spells r image → IsDue before old rs image at → Promise before after r image at result old new rs
 
 -- no record of this chain is under way, and these are its records on this disk
-abbrev pub Rests : Chain → View → List Image → Type 0
+abbrev pub Rests : ChainView → View → List Image → Type 0
 Rests chain v rs = (chain.due ≡ Piece 0) × ((behind : List ℕ) × IsAtRest chain.current v rs behind)
 
 -- both image files are as they were
 abbrev pub ImagesStay : View → View → Type 0
 ImagesStay old new = SameFile One old new × SameFile Two old new
 
--- an append that began at rest has come to this step
-pub record SoFar (start now : Current) (r : Image) (image : List ℕ) (at : Step) (old new : View) (rs : List Image) : Type 0 where
-  pub due : IsDueNext now new rs r image at
-  pub moments : LeavesOnly old new (Among old.may_leave (IsAppended start rs r))
-  pub output : SameFile Output old new
-
 -- an earlier outcome, but that no file is current and nothing is damaged
 abbrev pub HasNone : Store → Store → Type 0
 HasNone old new = (chain_in new ≡ Ok None) × (new.output ≡ old.output)
 
 -- nothing stands behind the last gate
-abbrev pub IsSettled : Chain → View → Type 0
+abbrev pub IsSettled : ChainView → View → Type 0
 IsSettled chain v = length (file_of chain.current.file v.seen) ≡ chain.current.gate + 1

@@ -6,14 +6,14 @@ use Rattle.disk_model.specs.View.{View}
 use Rattle.image_format.specs.Image.{Image}
 use Rattle.image_format.specs.Spelling.{image_length}
 use Rattle.image_format.specs.Reading.{image_at}
-use Rattle.image_chain.specs.declared.chain.Chain.{Chain}
+use Rattle.image_chain.specs.ChainView.{ChainView}
 use Rattle.image_chain.specs.declared.chain.Span.{Span}
 use Rattle.image_chain.specs.declared.fault.ChainFault.{ChainFault}
 use Rattle.image_chain.specs.declared.fault.ChainFault.TheVariants.{Failed, Damaged}
 use Rattle.image_chain.specs.Lists.{Rests}
 
 -- where record i stands, counted from 0
-abbrev pub span_at : Chain → ℕ → Span
+abbrev pub span_at : ChainView → ℕ → Span
 span_at chain i = get_or chain.current.spans i (record { at = 0; length = 0 })
 
 -- the bytes are a record of n bytes
@@ -56,9 +56,9 @@ IsShown (Err Failed) r room = Unit {0}
 IsShown (Err (Damaged f place)) r room = ⊥
 
 -- where a chain at rest has a record behind i others, that record is shown
-abbrev pub ShowsRecord : Chain → View → ℕ → Result ℕ ChainFault → List ℕ → Type 0
+abbrev pub ShowsRecord : ChainView → View → ℕ → Result ℕ ChainFault → List ℕ → Type 0
 ShowsRecord chain v i result room = IsTrue v.tells → (before : List Image) (r : Image) (after : List Image) → length before ≡ i → Rests chain v (before ++ r ∷ after) → IsShown result r room
 
 -- where the disk tells, what was judged are the bytes of the current file at the span of record i
-abbrev pub JudgesRecord : Chain → View → ℕ → Result ℕ ChainFault → List ℕ → Type 0
+abbrev pub JudgesRecord : ChainView → View → ℕ → Result ℕ ChainFault → List ℕ → Type 0
 JudgesRecord chain v i result room = IsTrue v.tells → IsJudged result chain.current.file (span_at chain i) (file_of chain.current.file v.seen) room

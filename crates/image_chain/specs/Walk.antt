@@ -6,7 +6,7 @@ use Rattle.disk_model.specs.Store.{Store, file_of}
 use Rattle.image_format.specs.Image.{Image, IsImage, word_in_runs}
 use Rattle.image_format.specs.Spelling.{image_length}
 use Rattle.image_format.specs.Reading.{◌>>=◌}
-use Rattle.image_chain.specs.declared.chain.Chain.{Chain}
+use Rattle.image_chain.specs.ChainView.{ChainView}
 use Rattle.image_chain.specs.declared.chain.Current.{Current}
 use Rattle.image_chain.specs.Records.{Damage, Found, records_at, newest_of, broken_field, chain_in}
 use Rattle.std.specs.Option.{option_or}
@@ -37,7 +37,7 @@ pub record Walked (current : Current) (kept : Joined) (rs : List Image) (file : 
   pub total : with_front rs (records_at (current.max - current.count) current.file file current.newest current.gate) ≡ records_at current.max current.file file None 15
 
 -- the chain that was opened, as the definition has it
-abbrev pub opened_as : Option Chain → List Image → Option Found
+abbrev pub opened_as : Option ChainView → List Image → Option Found
 opened_as None rs = None
 opened_as (Some chain) rs = found_of chain.current.file (header_of chain.current) rs
 
@@ -72,18 +72,18 @@ pub record IsRead (current : Current) (kept : Joined) (rs : List Image) (file : 
   pub words : (c : ℕ) → kept_word kept c ≡ memory rs c
 
 -- the chain was read from these files, and the other file is aside
-pub record IsReadFrom (chain : Chain) (kept : Joined) (rs : List Image) (s : Store) : Type 0 where
+pub record IsReadFrom (chain : ChainView) (kept : Joined) (rs : List Image) (s : Store) : Type 0 where
   pub due : chain.due ≡ Piece 0
   pub image_file : chain.current.file ≢ Output
   pub read : IsRead chain.current kept rs (file_of chain.current.file s)
   pub aside : IsAside (other chain.current.file) chain.current.generation (length rs) (file_of (other chain.current.file) s)
 
 -- what was read where a chain was found
-abbrev pub IsFound : Option Chain → Joined → List Image → Store → Type 0
+abbrev pub IsFound : Option ChainView → Joined → List Image → Store → Type 0
 IsFound None kept rs s = Unit {0}
 IsFound (Some chain) kept rs s = IsReadFrom chain kept rs s
 
 -- What was opened, on this disk: no crash leaves a chain; or the chain is at rest with these records, and their joined content is kept.
-abbrev pub IsOpened : Option Chain → Joined → List Image → View → Type 0
+abbrev pub IsOpened : Option ChainView → Joined → List Image → View → Type 0
 IsOpened None kept rs v = (c : Store) → v.may_leave c → chain_in c ≡ Ok None
 IsOpened (Some chain) kept rs v = Rests chain v rs × ((c : ℕ) → kept_word kept c ≡ memory rs c)

@@ -56,8 +56,8 @@ impl Chain {
         made
     }
 
-    /// Appends the record of an image: at each moment a crash leaves the old list, or the old list and the record; after `Ok` the new list
-    /// for good. After `Failed` the chain is spent.
+    /// Appends the record of an image: at each moment a crash leaves the old list, or the old list and the record, and the other image
+    /// file as it was; after `Ok` the new list for good. After `Failed` the chain is spent.
     pub fn append<D: Disk>(&mut self, disk: &mut D, image: &[u8]) -> Result<(), Failed>
         requires image { (r : Image) × Spells r image.now }
         requires room { self.old.current.count < self.old.current.max }

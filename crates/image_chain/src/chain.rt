@@ -1,8 +1,8 @@
 ghost use Rattle.std.specs.Prelude.{◌≡◌, ◌≤◌, ◌+◌, ◌*◌, length, IsSome, None};
-ghost use Rattle.image_chain.specs.Sound.{IsSound};
 
 use disk_model::DiskFile;
 use image_format::Fields;
+use std::marker::Model;
 
 /// The steps of an append, each of them one disk call.
 #[derive(Clone, Copy, Debug, PartialEq, Eq)]
@@ -19,20 +19,32 @@ pub enum Step {
     Done,
 }
 
-/// The chain of a store: where its records stand, and what is kept of them.
+/// The chain of a store: where its records stand, and what is kept of them. Contracts see the current file and the step that is due.
 #[derive(Drop)]
 pub struct Chain {
     pub(crate) current: Current,
     /// The step that is due.
     pub(crate) due: Step,
-    ghost sound: { IsSound current.generation current.every current.max current.count current.newest },
+}
+
+impl Model for Chain {
+    ghost use Rattle.image_chain.specs.ChainView.{ChainView};
+    ghost use Rattle.image_chain.specs.Append.{IsSoundFile};
+
+    ghost Value = { ChainView };
+
+    ghost view = { λ c. record { current = c.current; due = c.due } };
+
+    ghost invariant = { λ c. IsSoundFile c.current };
 }
 
 /// Where a record stands in its file, and how many bytes it has.
 #[derive(Clone, Copy)]
 pub struct Span {
-    pub(crate) at: u64,
-    pub(crate) length: usize,
+    /// The place of its first byte in the file.
+    pub at: u64,
+    /// How many bytes it has.
+    pub length: usize,
 }
 
 pub(crate) const NO_SPANS: [Span; 64] = [Span { at: 0, length: 0 }; 64];
@@ -40,19 +52,24 @@ pub(crate) const NO_SPANS: [Span; 64] = [Span { at: 0, length: 0 }; 64];
 /// What is kept of the current file.
 #[derive(Drop)]
 pub struct Current {
-    pub(crate) file: DiskFile,
-    pub(crate) generation: u32,
-    pub(crate) every: u32,
-    pub(crate) max: u16,
+    /// The file.
+    pub file: DiskFile,
+    /// The generation in its header.
+    pub generation: u32,
+    /// The steps from one image to the next.
+    pub every: u32,
+    /// How many records it holds at most.
+    pub max: u16,
     /// How many records there are.
-    pub(crate) count: u16,
+    pub count: u16,
     /// The place of the last gate, which is not open.
-    pub(crate) gate: u64,
-    /// The fields of the newest record, and the place at which it begins.
-    pub(crate) newest: Option<Fields>,
-    pub(crate) newest_at: u64,
+    pub gate: u64,
+    /// The fields of the newest record.
+    pub newest: Option<Fields>,
+    /// The place at which the newest record begins.
+    pub newest_at: u64,
     /// Where each record stands; those past the count mean nothing.
-    pub(crate) spans: [Span; 64],
+    pub spans: [Span; 64],
     ghost bounds: { (gate ≤ 15 + 3145837 * count) × (count ≤ max) × (max ≤ 64) × (length spans ≡ 64) },
     ghost some: { 1 ≤ count → IsSome newest },
     ghost none: { count ≡ 0 → newest ≡ None },

@@ -44,6 +44,7 @@ impl Chain {
     /// How many records the file holds at most.
     pub fn max(&self) -> u16
         ensures answer { result ≡ self.now.current.max }
+        ensures least { 2 ≤ result }
         ensures most { result ≤ 64 }
     {
         self.current.max

@@ -22,7 +22,8 @@ impl Chain {
     /// fields, and there are at least 2 records.
     ///
     /// At each moment a crash leaves the old list, or the one record, and the old list until the call that opens the gate; after `Ok`
-    /// the one record for good. After `Failed` the chain is spent.
+    /// the one record for good. The file of the old list stays as it was, and the other one too, or its gate is closed, until it has
+    /// the one record. After `Failed` the chain is spent.
     pub fn replace<D: Disk>(&mut self, disk: &mut D, image: &[u8]) -> Result<(), Failed>
         requires image { (r : Image) × Spells r image.now }
         requires records { 2 ≤ self.old.current.count }
@@ -48,7 +49,7 @@ impl Chain {
 }
 
 // The image file beside this one.
-fn beside(file: DiskFile) -> DiskFile
+pub(crate) fn beside(file: DiskFile) -> DiskFile
     ensures { result ≡ other file }
 {
     match file {

@@ -16,7 +16,7 @@ use image_format::{Header, write_header};
 impl Chain {
     /// Starts file One anew, with generation 1, a closed gate and no record.
     ///
-    /// `every` is at least 1, `max` is 2 to 64. No file is current, and after no crash is there one.
+    /// `every` is at least 1, `max` is 2 to 64. No file is current, and after no crash is there one. File Two stays as it was.
     pub fn start<D: Disk>(disk: &mut D, every: u32, max: u16) -> Result<Chain, Failed>
         requires every { 1 ≤ every }
         requires least { 2 ≤ max }
@@ -27,6 +27,7 @@ impl Chain {
         ensures answer { IfOk result (λ chain. IsTrue (D.view disk.old).tells → ((c : Store) → (D.view disk.old).may_leave c → chain_in c ≡ Ok None) → Rests chain (D.view disk.new) []) }
         ensures any_moment { IsTrue (D.view disk.old).tells → ((c : Store) → (D.view disk.old).may_leave c → chain_in c ≡ Ok None)
             → LeavesOnly (D.view disk.old) (D.view disk.new) (Among (D.view disk.old).may_leave HasNone) }
+        ensures aside { IsTrue (D.view disk.old).tells → SameFile DiskFile.Two (D.view disk.old) (D.view disk.new) }
         ensures output { IsTrue (D.view disk.old).tells → SameFile DiskFile.Output (D.view disk.old) (D.view disk.new) }
         ensures failed { OnErr result (Rose (D.view disk.old).faults (D.view disk.new).faults) }
         ensures counts { OnOk result ((D.view disk.new).faults ≡ (D.view disk.old).faults) }
@@ -55,7 +56,8 @@ impl Chain {
         })
     }
 
-    /// Cuts what stands behind the last gate, and makes the file lasting. After `Failed` the chain is spent.
+    /// Cuts what stands behind the last gate, and makes the file lasting. At each moment a crash leaves the same list, and the other
+    /// image file as it was. After `Failed` the chain is spent.
     pub fn settle<D: Disk>(&mut self, disk: &mut D) -> Result<(), Failed>
         requires rest { self.old.due ≡ Step.Piece 0 }
         requires rests { IsTrue (D.view disk.old).tells → (rs : List Image) × Rests self.old (D.view disk.old) rs }

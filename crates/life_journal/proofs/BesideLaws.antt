@@ -7,7 +7,7 @@ use Rattle.disk_model.specs.View.{View, IsDisk, SameFile}
 use Rattle.disk_model.specs.Moments.{Among, LeavesOnly}
 use Rattle.disk_model.proofs.Calls.{still, joined}
 use Rattle.image_format.specs.Image.{Image}
-use Rattle.image_chain.specs.declared.chain.Chain.{Chain}
+use Rattle.image_chain.specs.ChainView.{ChainView}
 use Rattle.image_chain.specs.Append.{IsAside, other}
 use Rattle.image_chain.specs.Lists.{Rests}
 use Rattle.output_file.specs.Pushed.{Pushed}
@@ -33,7 +33,7 @@ image_same One u v not same = same.0
 image_same Two u v not same = same.1
 
 -- a chain at rest beside a call that leaves the image files
-pub rests_beside : (chain : Chain) (u v : View) (rs : List Image) → SameFile One u v × SameFile Two u v → Rests chain u rs → Rests chain v rs
+pub rests_beside : (chain : ChainView) (u v : View) (rs : List Image) → SameFile One u v × SameFile Two u v → Rests chain u rs → Rests chain v rs
 rests_beside chain u v rs same h =
     let rest = h.1.1 in
     let f = chain.current.file in

@@ -7,7 +7,7 @@ use Rattle.disk_model.specs.View.{View, IsDisk, SameFile}
 use Rattle.disk_model.specs.Moments.{Among, LeavesOnly}
 use Rattle.disk_model.proofs.Calls.{still, joined, weaken}
 use Rattle.image_format.specs.Image.{Image, word_in_runs}
-use Rattle.image_chain.specs.declared.chain.Chain.{Chain}
+use Rattle.image_chain.specs.ChainView.{ChainView}
 use Rattle.image_chain.specs.declared.chain.Current.{Current}
 use Rattle.image_chain.specs.Append.{header_of, other, TakesOver, Spells}
 use Rattle.image_chain.specs.Lists.{Rests, HasNone}
@@ -31,7 +31,7 @@ use Rattle.life_journal.proofs.BesideLaws.{rests_beside, output_beside}
 pub output_grows : (j k : JournalView) (u v : View) (added : List ℕ) → k.chain ≡ j.chain → k.kept ≡ j.kept → (IsTrue u.tells → SameFile One u v × SameFile Two u v)
     → (IsTrue u.tells → (w : List ℕ) → IsOutputOn j.output u w → IsOutputOn k.output v (w ++ added)) → IsTrue u.tells → (rs : List Image) (w : List ℕ) → HoldsJournal j u rs w → HoldsJournal k v rs (w ++ added)
 output_grows j k u v added chain kept same answer tells rs w h = record {
-  rests = subst (λ (x : Chain). Rests x v rs) (sym chain) (rests_beside j.chain u v rs (same tells) h.rests);
+  rests = subst (λ (x : ChainView). Rests x v rs) (sym chain) (rests_beside j.chain u v rs (same tells) h.rests);
   content = subst (λ (x : Joined). IsContent x rs) (sym kept) h.content;
   output = answer tells w h.output;
 }
@@ -39,7 +39,7 @@ output_grows j k u v added chain kept same answer tells rs w h = record {
 pub output_lasts : (j k : JournalView) (u v : View) → k.chain ≡ j.chain → k.kept ≡ j.kept → (IsTrue u.tells → SameFile One u v × SameFile Two u v)
     → (IsTrue u.tells → (w : List ℕ) → IsOutputOn j.output u w → IsOutputOn k.output v w) → IsTrue u.tells → (rs : List Image) (w : List ℕ) → HoldsJournal j u rs w → HoldsJournal k v rs w
 output_lasts j k u v chain kept same answer tells rs w h = record {
-  rests = subst (λ (x : Chain). Rests x v rs) (sym chain) (rests_beside j.chain u v rs (same tells) h.rests);
+  rests = subst (λ (x : ChainView). Rests x v rs) (sym chain) (rests_beside j.chain u v rs (same tells) h.rests);
   content = subst (λ (x : Joined). IsContent x rs) (sym kept) h.content;
   output = answer tells w h.output;
 }
@@ -71,14 +71,14 @@ pub joined_moments : (u v : View) (chain : Current) (rs : List Image) (r : Image
 joined_moments u v chain rs r joins run = weaken u v (Among u.may_leave (MayBeJoined chain rs)) (Among u.may_leave (IsReplaced chain rs r)) run (λ c from. (from.0, from.1, inr (r, joins, from.2)))
 
 -- a chain that was joined has room for a record
-pub joined_room : (old new : Chain) → StandsOnOther old.current new.current → new.current.count < new.current.max
-joined_room old new took = let count = took.count in let least = new.sound.max_least in omega (arith, count, least)
+pub joined_room : (old new : ChainView) → 2 ≤ old.current.max → StandsOnOther old.current new.current → new.current.count < new.current.max
+joined_room old new least took = let count = took.count in let max : new.current.max ≡ old.current.max = ap (λ (h : Header). h.max) took.header in omega (arith, count, max, least)
 
-pub joined_every : (old new : Chain) → StandsOnOther old.current new.current → new.current.every ≡ old.current.every
+pub joined_every : (old new : ChainView) → StandsOnOther old.current new.current → new.current.every ≡ old.current.every
 joined_every old new took = ap (λ (h : Header). h.every) took.header
 
-pub full_has_two : (chain : Chain) → chain.current.max ≤ chain.current.count → 2 ≤ chain.current.count
-full_has_two chain full = let least = chain.sound.max_least in omega (arith, full, least)
+pub full_has_two : (chain : ChainView) → 2 ≤ chain.current.max → chain.current.max ≤ chain.current.count → 2 ≤ chain.current.count
+full_has_two chain least full = omega (arith, full, least)
 
 -- ---- a record more
 

@@ -1,7 +1,7 @@
 -- Which chain fits a program.
 use Rattle.std.specs.Prelude.{◌≡◌, ◌⊎◌, ℕ, ◌+◌, ◌<◌, ◌≤◌, Contains, IsSome, None}
 use Rattle.image_format.specs.declared.fields.Fields.{Fields}
-use Rattle.image_chain.specs.declared.chain.Chain.{Chain}
+use Rattle.image_chain.specs.ChainView.{ChainView}
 use Rattle.image_chain.specs.Memory.{Joined, kept_word}
 use Rattle.recovery.specs.declared.shape.Shape.{Shape}
 
@@ -29,7 +29,7 @@ abbrev pub ListsPast : ℕ → Joined → Type 0
 ListsPast cells k = (c : ℕ) × (cells ≤ c) × IsSome (kept_word k c)
 
 -- The place in the current file at which a chain does not fit a program: that of its records for a listed cell, else that of a field of the newest record.
-abbrev pub IsDamagedAt : ℕ → Chain → Joined → Shape → Fields → Type 0
+abbrev pub IsDamagedAt : ℕ → ChainView → Joined → Shape → Fields → Type 0
 IsDamagedAt place chain k s newest =
     (ListsPast s.cells k × (place ≡ 16))
     ⊎ (ListsOnly s.cells k × ((field : ℕ) × IsUnfitAt field s newest × (place ≡ chain.current.newest_at + field)))

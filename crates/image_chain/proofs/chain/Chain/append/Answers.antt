@@ -4,7 +4,8 @@ use Rattle.disk_model.proofs.Calls.{steady_twice}
 use Rattle.image_chain.specs.declared.chain.Step.{Step}
 use Rattle.image_chain.specs.declared.chain.Current.{Current}
 use Rattle.image_chain.specs.Records.{broken_field}
-use Rattle.image_chain.specs.Append.{IsInsideOrDone, IsDueNext, due_after}
+use Rattle.image_chain.specs.Append.{IsDueNext, due_after}
+use Rattle.image_chain.proofs.LoopWords.{IsInsideOrDone}
 use Rattle.image_chain.proofs.LoopLaws.{begun, goes_on, output_goes_on, due_next, inside_next, inside_due, smaller, stands_due, due_is, same_next, took_next, not_last}
 use Rattle.image_chain.proofs.StepLaws.{spells_length}
 use Rattle.image_chain.proofs.chain.Chain.append.Goals as goal

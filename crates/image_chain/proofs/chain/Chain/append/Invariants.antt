@@ -2,8 +2,8 @@ use Rattle.std.proofs.Common.{◌≡◌, ◌≢◌, IsTrue, List, ℕ, length}
 use Rattle.disk_model.specs.View.{Steady}
 use Rattle.image_format.specs.Image.{Image}
 use Rattle.image_chain.specs.declared.chain.Step.TheVariants.{Done}
-use Rattle.image_chain.specs.Append.{IsAtRest, Spells, IsInsideOrDone, TakesOver, due_after, left_to_do}
-use Rattle.image_chain.specs.Lists.{SoFar}
+use Rattle.image_chain.specs.Append.{IsAtRest, Spells, TakesOver, due_after}
+use Rattle.image_chain.proofs.LoopWords.{IsInsideOrDone, left_to_do, SoFar}
 use Rattle.image_chain.proofs.chain.Chain.append.Given as goal
 
 abbrev pub invariant-loop-at : goal.invariant-loop-at

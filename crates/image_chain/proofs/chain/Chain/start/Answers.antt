@@ -1,8 +1,8 @@
 use Rattle.std.proofs.Common.{arith, refl, []}
 use Rattle.image_chain.proofs.StartLaws.{start_moments, start_rest, started_keeps, new_header, holds_new}
-use Rattle.disk_model.specs.declared.disk_file.DiskFile.TheVariants.{Output, One}
+use Rattle.disk_model.specs.declared.disk_file.DiskFile.TheVariants.{Output, One, Two}
 use Rattle.disk_model.proofs.Calls.{others_stay}
-use Rattle.image_chain.proofs.OutputLaws.{one_aside}
+use Rattle.image_chain.proofs.OutputLaws.{one_aside, not_two}
 use Rattle.image_chain.proofs.chain.Chain.start.Goals as goal
 
 pub returns-in_err-start_file-clause-any_moment : goal.returns-in_err-start_file-clause-any_moment
@@ -22,3 +22,9 @@ returns-in_err-start_file-clause-output g c = λ tells. others_stay One Output _
 
 pub returns-clause-output : goal.returns-clause-output
 returns-clause-output g c = λ tells. others_stay One Output _ c.start_file.result _ _ one_aside tells c.start_file.ensures.answer
+
+pub returns-in_err-start_file-clause-aside : goal.returns-in_err-start_file-clause-aside
+returns-in_err-start_file-clause-aside g c = λ tells. others_stay One Two _ c.start_file.result _ _ not_two tells c.start_file.ensures.answer
+
+pub returns-clause-aside : goal.returns-clause-aside
+returns-clause-aside g c = λ tells. others_stay One Two _ c.start_file.result _ _ not_two tells c.start_file.ensures.answer
