@@ -1,5 +1,5 @@
 -- A taken image holds what the run needs.
-use Rattle.std.proofs.Common.{◌≡◌, refl, sym, ◌∙◌, ap, subst, ℕ, zero, suc, ◌-◌, ◌/◌, ◌<◌, ◌≤◌, ◌==◌, ◌||◌, ◌&&◌, not, nat_lt, Bool, true, false, ⊎_elim, List, [], ◌∷◌, ◌++◌, length, append_assoc, Option, Some, None, arith}
+use Rattle.std.proofs.Common.{◌≡◌, refl, sym, ◌∙◌, ap, subst, ℕ, zero, suc, ◌/◌, ◌<◌, ◌≤◌, ◌==◌, ◌||◌, ◌&&◌, not, nat_lt, Bool, true, false, ⊎_elim, List, [], ◌∷◌, ◌++◌, length, append_assoc, Option, Some, None, arith}
 use Rattle.std.specs.Prelude.{is_some, slice_index, slice_index_or}
 use Rattle.std.specs.Option.{option_or}
 use Rattle.std.specs.List.{list_any}
@@ -12,7 +12,7 @@ use Rattle.c_tree.specs.Meaning.{meaning}
 use Rattle.cell_sets.specs.Sets.{Cells, has}
 use Rattle.path_laws.specs.Graph.{Graph, exclude_count}
 use Rattle.path_laws.specs.Forgettable.{IsForgettable}
-use Rattle.exclusion_equations.specs.Excluded.{IsDead, IsReadOnly, dead_of, read_only_of}
+use Rattle.exclusion_equations.specs.Excluded.{IsDead, IsReadOnly, numbered, dead_of, read_only_of}
 use Rattle.image_format.specs.Image.{Image, word_in_runs}
 use Rattle.image_chain.specs.Records.{newest_of}
 use Rattle.image_chain.specs.Memory.{memory}
@@ -75,6 +75,11 @@ among [] k c e = absurd (let z : false ≡ true = e in cc)
 among (x ∷ xs) zero c e = omega arith
 among (x ∷ xs) (suc k) c e = let h = among xs k c e in omega (arith, h)
 
+-- a numbered set that has a cell is one of the list
+within_list : (sets : List Cells) (k c : ℕ) → has (numbered sets k) c ≡ true → k ≤ length sets
+within_list sets zero c e = omega arith
+within_list sets (suc k) c e = let h = among sets k c e in omega (arith, h)
+
 module _ (s : Source) (is : IsSource s) (every node t : ℕ) (es : List Event) (spared : (c : ℕ) → c < cell_count s.program → IsSpared s.graph (run_of s t).events c) (ends : (run_of s t).events ≡ es ++ Checkpoint node t ∷ []) where
   abbrev T : Taking
   T = taking_of s every
@@ -100,7 +105,7 @@ module _ (s : Source) (is : IsSource s) (every node t : ℕ) (es : List Event) (
     dead_no some holds =
         let u = facts.under some in
         let k = S.directive in
-        let within : k ≤ exclude_count s.graph = (let h = among s.sets.dead (k - 1) c holds in let e = is.sets.dead_len in omega (arith, h, e)) in
+        let within : k ≤ exclude_count s.graph = (let h = within_list s.sets.dead k c holds in let e = is.sets.dead_len in omega (arith, h, e)) in
         let dead : IsDead s.graph k c = ((is.sets.dead k (let z = zero_least k some in z) within).exact c lt_cells).0 holds in
         kept ((spared c lt).dead k node t u.behind (u.before, [], split_at u.before u.behind (Excluded k) u.split) u.none dead)
       where
@@ -112,7 +117,7 @@ module _ (s : Source) (is : IsSource s) (every node t : ℕ) (es : List Event) (
     read_only_old some included holds =
         let u = facts.under some in
         let k = S.directive in
-        let within : k ≤ exclude_count s.graph = (let h = among s.sets.read_only (k - 1) c holds in let e = is.sets.read_only_len in omega (arith, h, e)) in
+        let within : k ≤ exclude_count s.graph = (let h = within_list s.sets.read_only k c holds in let e = is.sets.read_only_len in omega (arith, h, e)) in
         let only : IsReadOnly s.graph k c = ((is.sets.read_only k (zero_least k some) within).exact c lt_cells).0 holds in
         let never = (spared c lt).read_only k node t u.behind (u.before, [], split_at u.before u.behind (Excluded k) u.split) u.none only in
         (facts.included included, by_written (has_cell S.written c) refl (λ e. never (u.within included c e)))
