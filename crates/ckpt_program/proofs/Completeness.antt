@@ -1,5 +1,5 @@
 -- Where the files are as they should be and nothing fails, a command tells what is meant.
-use Rattle.std.proofs.Common.{◌≡◌, ◌<◌, ◌≤◌, ◌⊎◌, ◌++◌, ◌∙◌, refl, sym, ap, subst, inl, inr, ⊎_elim, ℕ, List, length, IsTrue, Option, Some, None, Result, Ok, Err, arith}
+use Rattle.std.proofs.Common.{◌≡◌, ◌<◌, ◌⊎◌, ◌++◌, ◌∙◌, refl, sym, ap, subst, inl, inr, ⊎_elim, ℕ, List, length, IsTrue, Option, Some, None, Result, Ok, Err, arith}
 use Rattle.ckpt_base.specs.Faults.{Rose}
 use Rattle.ckpt_base.specs.Run as run
 use Rattle.ckpt_base.specs.Shelf.{ShelfView}
@@ -8,7 +8,6 @@ use Rattle.ckpt_base.specs.declared.ending.Ending.{Ending}
 use Rattle.c_tree.specs.declared.resolved.Resolved.{Resolved}
 use Rattle.c_tree.specs.Meaning.{meaning}
 use Rattle.c_types.specs.Check.{checked}
-use Rattle.c_meaning.specs.Plain.{IsPlain}
 use Rattle.command_words.specs.declared.command.Command.{Command}
 use Rattle.command_words.specs.declared.command.Command.TheVariants.{Plain, Check, Compile, Report}
 use Rattle.ckpt_program.specs.declared.done.Counts.{Counts}
@@ -22,17 +21,16 @@ use Rattle.ckpt_program.specs.declared.stop.Stop.{Stop}
 use Rattle.ckpt_program.specs.declared.stop.Stop.TheVariants.{NoMemory, Because}
 use Rattle.ckpt_program.specs.Sight.{sight}
 use Rattle.ckpt_program.specs.Fetched.{limit_of, IsWhole}
-use Rattle.ckpt_program.specs.Stage.{Stage, ◌>>=◌, only, Comes}
+use Rattle.ckpt_program.specs.Stage.{◌>>=◌, only, Comes}
 use Rattle.ckpt_program.specs.Accepted.{Spelled, Accepted, IsAccepted}
 use Rattle.ckpt_program.specs.Stages.{FailsFile, File, HasSource, FailsSource, Source}
 use Rattle.ckpt_program.specs.Listed.{IsListing}
 use Rattle.ckpt_program.specs.Report.{IsReport}
 use Rattle.ckpt_program.specs.Rows.{IsCounted, Counted, Evaluated, Printed}
-use Rattle.ckpt_program.specs.Rows as row
 use Rattle.ckpt_program.specs.Carries.{word_at, CarriesSome}
-use Rattle.ckpt_program.specs.Texts.{counts_line, run_text, ending_status, done_text, done_status, text_of, status_of, usage_line}
+use Rattle.ckpt_program.specs.Texts.{counts_line, run_text, ending_status, done_text, done_status, text_of, status_of}
 use Rattle.ckpt_program.specs.Told.{Tells}
-use Rattle.ckpt_program.specs.Top.{IsFaultless, HasFile, HasProgram, Job, IsReady, Says, Complete}
+use Rattle.ckpt_program.specs.Top.{HasFile, HasProgram, Job, Says, Complete}
 
 -- ---- texts
 

@@ -1,27 +1,42 @@
--- The clauses of the top call that name no outcome, and the one on completeness.
-use Rattle.std.specs.Prelude.{◌≡◌, ◌≤◌, ◌⊎◌, ◌++◌, ℕ, IsTrue, List, length, Option, Some, None}
+-- The clauses of the top call: the one on its outcome, those that name none, and the one on completeness.
+use Rattle.std.specs.Prelude.{◌≡◌, ◌<◌, ◌≤◌, ◌-◌, ◌^◌, ◌⊎◌, ◌++◌, ℕ, IsTrue, List, length, Option, Some, None, Result}
 use Rattle.ckpt_base.specs.Faults.{Rose}
 use Rattle.ckpt_base.specs.Run as run
 use Rattle.ckpt_base.specs.Shelf.{ShelfView, file_named}
 use Rattle.ckpt_base.specs.Sink.{SinkView}
 use Rattle.c_tree.specs.declared.resolved.Resolved.{Resolved}
 use Rattle.c_tree.specs.Meaning.{meaning}
+use Rattle.command_words.specs.Words.{command_of}
 use Rattle.command_words.specs.declared.command.Command.{Command}
 use Rattle.command_words.specs.declared.command.Command.TheVariants.{Plain, Check, Compile, Report}
 use Rattle.disk_model.specs.Store.{Store}
 use Rattle.disk_model.specs.View.{View}
 use Rattle.disk_model.specs.Moments.{LeavesOnly}
 use Rattle.disk_model.specs.Keeps.{LeavesNow, Untouched}
+use Rattle.ckpt_program.specs.Sight.{sight}
 use Rattle.ckpt_program.specs.Fetched.{limit_of}
+use Rattle.ckpt_program.specs.Stage.{Comes}
 use Rattle.ckpt_program.specs.Accepted.{IsAccepted}
 use Rattle.ckpt_program.specs.Listed.{IsListing}
 use Rattle.ckpt_program.specs.Report.{IsReport}
 use Rattle.ckpt_program.specs.Rows.{IsCounted}
-use Rattle.ckpt_program.specs.Carries.{word_at}
+use Rattle.ckpt_program.specs.Carries.{word_at, CarriesSome}
 use Rattle.ckpt_program.specs.Texts.{counts_line, run_text, ending_status, usage_line}
+use Rattle.ckpt_program.specs.Told.{Tells}
 use Rattle.ckpt_program.specs.declared.done.Counts.{Counts}
+use Rattle.ckpt_program.specs.declared.done.Done.{Done}
+use Rattle.ckpt_program.specs.declared.stop.Stop.{Stop}
 use Rattle.ckpt_program.specs.declared.stop.Document.{Document}
 use Rattle.ckpt_program.specs.declared.stop.Document.TheVariants as document
+
+-- There is one outcome that comes by the words and the shelf, and it is told on the console.
+abbrev pub Answers : (words : List (List ℕ)) → (shelf shelf_new : ShelfView) (console console_new : SinkView) → (result : ℕ) → Type 0
+Answers words shelf shelf_new console console_new result =
+    (o : Result Done Stop) × Comes (CarriesSome words (command_of words) (sight shelf) (sight shelf_new)) o × Tells o console console_new result
+
+-- Where the count rose, this is the status. A count that stands at the greatest u64 does not count as risen here.
+abbrev pub Blames : (status : ℕ) (old new : ℕ) (result : ℕ) → Type 0
+Blames status old new result = Rose old new → old < 2 ^ 64 - 1 → result ≡ status
 
 -- ---- the disk
 

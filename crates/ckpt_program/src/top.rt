@@ -1,16 +1,12 @@
 //! The whole program.
 
-ghost use Rattle.std.specs.Prelude.{◌≡◌, ◌<◌, ◌-◌, ◌^◌, ℕ, List, length, Result};
-ghost use Rattle.ckpt_base.specs.Faults.{Rose};
+ghost use Rattle.std.specs.Prelude.{◌≡◌, ◌<◌, length};
 ghost use Rattle.disk_model.specs.View.{Steady};
 ghost use Rattle.command_words.specs.Words.{command_of, HasPlaces};
-ghost use Rattle.ckpt_program.specs.declared.done.Done.{Done};
-ghost use Rattle.ckpt_program.specs.declared.stop.Stop.{Stop};
 ghost use Rattle.ckpt_program.specs.Sight.{sight, Calm, Later};
 ghost use Rattle.ckpt_program.specs.Stage.{Comes};
 ghost use Rattle.ckpt_program.specs.Carries.{word_at, Carries, CarriesSome};
-ghost use Rattle.ckpt_program.specs.Told.{Tells};
-ghost use Rattle.ckpt_program.specs.Top.{AnyMoment, NoImageLost, LeavesContents, Complete};
+ghost use Rattle.ckpt_program.specs.Top.{Answers, Blames, AnyMoment, NoImageLost, LeavesContents, Complete};
 
 use crate::check::check;
 use crate::compile::compile;
@@ -39,13 +35,13 @@ pub fn ckpt<H: Shelf, D: Disk, K: Sink>(
     disk: &mut D,
     console: &mut K,
 ) -> u8
-    ensures answer { (o : Result Done Stop) × Comes (CarriesSome words.now.items (command_of words.now.items) (sight (H.view shelf.old)) (sight (H.view shelf.new))) o × Tells o (K.view console.old) (K.view console.new) result }
+    ensures answer { Answers words.now.items (H.view shelf.old) (H.view shelf.new) (K.view console.old) (K.view console.new) result }
     ensures steady { Later (sight (H.view shelf.old)) (sight (H.view shelf.new)) × Steady (D.view disk.old) (D.view disk.new) }
     ensures any_moment { AnyMoment (command_of words.now.items) (D.view disk.old) (D.view disk.new) }
     ensures no_image_lost { NoImageLost (command_of words.now.items) (D.view disk.old) (D.view disk.new) }
     ensures untouched { LeavesContents (command_of words.now.items) result (D.view disk.old) (D.view disk.new) }
-    ensures blamed { Rose (H.view shelf.old).faults (H.view shelf.new).faults → (H.view shelf.old).faults < 2 ^ 64 - 1 → result ≡ 6 }
-    ensures blamed_disk { Rose (D.view disk.old).faults (D.view disk.new).faults → (D.view disk.old).faults < 2 ^ 64 - 1 → result ≡ 5 }
+    ensures blamed { Blames 6 (H.view shelf.old).faults (H.view shelf.new).faults result }
+    ensures blamed_disk { Blames 5 (D.view disk.old).faults (D.view disk.new).faults result }
     ensures complete { Complete words.now.items (command_of words.now.items) (H.view shelf.old) (H.view shelf.new) (K.view console.old) (K.view console.new) result }
 {
     let came = come_to(alloc, words, shelf);

@@ -12,7 +12,7 @@ use std::alloc::Global;
 /// The command that the words are; none exactly where they are no command.
 ///
 /// An option that is not given has its default: `--until` the greatest number of 64 bits.
-pub fn read_words(_alloc: Global, words: &Vec<Text>) -> Result<Option<Command>, NoMemory>
+pub fn read_words(alloc: Global, words: &Vec<Text>) -> Result<Option<Command>, NoMemory>
     ensures answer { IfOk result (λ c. c ≡ command_of words.now.items) }
     // each file is one of the words
     ensures places { IfOk result (λ c. IfSome c (λ command. HasPlaces command (length words.now.items))) }
