@@ -3,7 +3,7 @@ use Rattle.std.proofs.Common.{inl, inr, ⊎_elim, refl, sym, ◌∙◌, subst, �
 use Rattle.disk_model.specs.Store.{Store}
 use Rattle.disk_model.specs.View.{View, IsDisk, Looks}
 use Rattle.disk_model.specs.Moments.{LeavesOnly}
-use Rattle.disk_model.specs.Keeps.{Untouched, LeavesNow, AddsOnly, Protects, Keeps}
+use Rattle.disk_model.specs.Keeps.{Untouched, LeavesNow, AddsOnly, Protects, KeepsStanding}
 use Rattle.disk_model.proofs.Calls.{steady_twice, looks_steady}
 
 -- ---- what leaves the contents as they were
@@ -76,7 +76,7 @@ protects_twice a b c P first second = λ here.
     adds_twice a b c P one (second (λ t s left. let old : IsTrue a.tells = subst IsTrue one.tells t in ⊎_elim (here old s) (λ h. h) (one.now old s left)))
 
 -- a look, and then what keeps of the disk
-pub keeps_after : {X T E : Type 0} (stands : X → Store → Type 0) (newest : Store → ℕ) (P : X → Type 0) (images : Type 0) (result : Result T E) (a b c : View) → Looks result a b → Keeps stands newest P images b c → Keeps stands newest P images a c
+pub keeps_after : {X T E : Type 0} (stands : X → Store → Type 0) (newest : Store → ℕ) (P : X → Type 0) (images : Type 0) (result : Result T E) (a b c : View) → Looks result a b → KeepsStanding stands newest P images b c → KeepsStanding stands newest P images a c
 keeps_after stands newest P images result a b c look run = record {
   steady = steady_twice a b c (looks_steady result a b look) run.steady;
   any_moment = λ x is. protects_twice a b c (stands x) (λ _. looked result a b (stands x) look) (run.any_moment x is);
@@ -84,7 +84,7 @@ keeps_after stands newest P images result a b c look run = record {
 }
 
 -- what is kept for some givens is for fewer
-pub keeps_for : {X : Type 0} (stands : X → Store → Type 0) (newest : Store → ℕ) (P Q : X → Type 0) (images fewer : Type 0) (a b : View) → Keeps stands newest P images a b → ((x : X) → Q x → P x) → (fewer → images) → Keeps stands newest Q fewer a b
+pub keeps_for : {X : Type 0} (stands : X → Store → Type 0) (newest : Store → ℕ) (P Q : X → Type 0) (images fewer : Type 0) (a b : View) → KeepsStanding stands newest P images a b → ((x : X) → Q x → P x) → (fewer → images) → KeepsStanding stands newest Q fewer a b
 keeps_for stands newest P Q images fewer a b run weaker less = record { steady = run.steady; any_moment = λ x is. run.any_moment x (weaker x is); no_image_lost = λ can. run.no_image_lost (less can) }
 
 -- what is kept of a lawful disk is so at each moment

@@ -29,7 +29,7 @@ abbrev pub Protects : (Store → Type 0) → View → View → Type 0
 Protects P old new = LeavesNow P old → AddsOnly old new P
 
 -- `stands` is what a store stands for, `newest` the number of its newest image, `of_call` what the calls were given, and `images` holds where they lose no image.
-pub record Keeps {X : Type 0} (stands : X → Store → Type 0) (newest : Store → ℕ) (of_call : X → Type 0) (images : Type 0) (old new : View) : Type 0 where
+pub record KeepsStanding {X : Type 0} (stands : X → Store → Type 0) (newest : Store → ℕ) (of_call : X → Type 0) (images : Type 0) (old new : View) : Type 0 where
   pub steady : Steady old new
   pub any_moment : (x : X) → of_call x → Protects (stands x) old new
   pub no_image_lost : images → (j : ℕ) → Protects (λ c. j ≤ newest c) old new
