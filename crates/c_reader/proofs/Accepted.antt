@@ -66,3 +66,9 @@ scan_only text e p h t = err_not_ok e text t.1 h t.2
 
 pub no_text : (text : List ℕ) (p : Program) → longest < length text → IsTextOf p text → ⊥
 no_text text p l t = omega (arith, l, t.0)
+
+-- two programs that a text spells are one
+pub one_program : (text : List ℕ) (p q : Program) → IsTextOf p text → IsTextOf q text → p ≡ q
+one_program text p q t u =
+    let found : with_items t.1.constants p.items ≡ q = only_this text t.1.tokens t.1.constants t.2 p.items q (program_reads p.items t.1.tokens t.4) u in
+    sym (ap (λ cs. with_items cs p.items) t.3) ∙ found

@@ -15,6 +15,7 @@ mod fault;
 mod functions;
 mod here;
 mod items;
+mod laws;
 mod locals;
 mod look;
 mod objects;
@@ -27,6 +28,7 @@ mod strings;
 mod words;
 
 pub use fault::ReadFault;
+pub use laws::texts_spell_one_program;
 pub use reader::read;
 
 #[cfg(test)]

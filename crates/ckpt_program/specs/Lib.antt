@@ -1,18 +1,26 @@
--- the words of a command line
-pub mod Words
--- the command that the code has parsed
-pub mod Parsed
+-- what is told of the shelf, apart from the file that is open
+pub mod Sight
 -- what reading a whole file comes to
 pub mod Fetched
--- the status and the text of an outcome
-pub mod Texts
+-- stages, and how they are joined
+pub mod Stage
 -- the faults that refusals tell
 pub mod Reasons
--- what `report` prints
-pub mod Report
+-- which texts are accepted
+pub mod Accepted
+-- the stages that read files
+pub mod Stages
 -- what `compile` prints
 pub mod Listed
--- when each outcome comes
-pub mod Outcomes
+-- what `report` prints
+pub mod Report
+-- what each command comes to
+pub mod Rows
+-- what the words come to
+pub mod Carries
+-- the status and the text of what a command has come to
+pub mod Texts
 -- what the console takes
 pub mod Told
+-- the clauses of the top call that name no outcome
+pub mod Top

@@ -1,43 +1,34 @@
--- Which fault a refusal tells: one of the text, or one of its program.
-use Rattle.std.specs.Prelude.{◌≡◌, Option, Some, None}
+-- Why a text is refused: the fault of the text, or of its program, as a command tells it.
 use Rattle.c_reader.specs.declared.fault.ReadFault.{ReadFault}
 use Rattle.c_reader.specs.declared.fault.ReadFault.TheVariants as text
 use Rattle.c_types.specs.declared.fault.CheckFault.{CheckFault}
 use Rattle.c_types.specs.declared.fault.CheckFault.TheVariants as rule
-use Rattle.ckpt_program.specs.declared.refusal.Refusal.{Refusal}
 use Rattle.ckpt_program.specs.declared.refusal.Refusal.TheVariants as refusal
+use Rattle.ckpt_program.specs.declared.stop.Document.TheVariants as document
+use Rattle.ckpt_program.specs.declared.stop.Cause.TheVariants.{Refused, TooLarge}
+use Rattle.ckpt_program.specs.declared.stop.Stop.{Stop}
+use Rattle.ckpt_program.specs.declared.stop.Stop.TheVariants.{NoMemory, Because}
 
--- the text spells no program, or its program breaks a rule
-pub data Reason : Type 0 where
-  Text : ReadFault → Reason
-  Rule : CheckFault → Reason
+-- the text spells no program
+abbrev pub stop_of_text : ReadFault → Stop
+stop_of_text text.Memory = NoMemory
+stop_of_text (text.TooLong n) = Because (TooLarge document.Source)
+stop_of_text (text.BadByte place) = Because (Refused (refusal.BadByte place))
+stop_of_text (text.BadNumber place) = Because (Refused (refusal.BadNumber place))
+stop_of_text text.UnendedComment = Because (Refused refusal.UnendedComment)
+stop_of_text (text.Syntax line) = Because (Refused (refusal.Syntax line))
 
-abbrev pub reason : Refusal → Reason
-reason (refusal.BadByte place) = Text (text.BadByte place)
-reason (refusal.BadNumber place) = Text (text.BadNumber place)
-reason refusal.UnendedComment = Text text.UnendedComment
-reason (refusal.Syntax line) = Text (text.Syntax line)
-reason (refusal.Unknown name) = Rule (rule.Unknown name)
-reason (refusal.Twice name) = Rule (rule.Twice name)
-reason refusal.NoMain = Rule rule.NoMain
-reason (refusal.WrongType line) = Rule (rule.WrongType line)
-reason (refusal.WrongCount line) = Rule (rule.WrongCount line)
-reason (refusal.DirectiveOutsideMain line) = Rule (rule.DirectiveOutsideMain line)
-reason (refusal.CallsMain line) = Rule (rule.CallsMain line)
-reason (refusal.TooManyCells n) = Rule (rule.TooManyCells n)
-reason (refusal.TooManyLocals name) = Rule (rule.TooManyLocals name)
-reason (refusal.TooManyNodes n) = Rule (rule.TooManyNodes n)
-reason (refusal.TooManyDirectives n) = Rule (rule.TooManyDirectives n)
-
--- the refusal tells the fault of the text; none tells want of memory or too long a text
-abbrev pub TextFault : ReadFault → Option Refusal → Type 0
-TextFault text.Memory None = Unit {0}
-TextFault (text.TooLong n) None = Unit {0}
-TextFault f None = ⊥
-TextFault f (Some r) = reason r ≡ Text f
-
--- the refusal tells the broken rule; none tells want of memory
-abbrev pub RuleFault : CheckFault → Option Refusal → Type 0
-RuleFault rule.Memory r = r ≡ None
-RuleFault f None = ⊥
-RuleFault f (Some r) = reason r ≡ Rule f
+-- its program breaks a rule
+abbrev pub stop_of_rule : CheckFault → Stop
+stop_of_rule rule.Memory = NoMemory
+stop_of_rule (rule.Unknown name) = Because (Refused (refusal.Unknown name))
+stop_of_rule (rule.Twice name) = Because (Refused (refusal.Twice name))
+stop_of_rule rule.NoMain = Because (Refused refusal.NoMain)
+stop_of_rule (rule.WrongType line) = Because (Refused (refusal.WrongType line))
+stop_of_rule (rule.WrongCount line) = Because (Refused (refusal.WrongCount line))
+stop_of_rule (rule.DirectiveOutsideMain line) = Because (Refused (refusal.DirectiveOutsideMain line))
+stop_of_rule (rule.CallsMain line) = Because (Refused (refusal.CallsMain line))
+stop_of_rule (rule.TooManyCells n) = Because (Refused (refusal.TooManyCells n))
+stop_of_rule (rule.TooManyLocals name) = Because (Refused (refusal.TooManyLocals name))
+stop_of_rule (rule.TooManyNodes n) = Because (Refused (refusal.TooManyNodes n))
+stop_of_rule (rule.TooManyDirectives n) = Because (Refused (refusal.TooManyDirectives n))

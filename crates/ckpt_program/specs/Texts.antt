@@ -1,27 +1,53 @@
--- What a command answers: its status and its text.
-use Rattle.std.specs.Prelude.{ℕ, List, [], ◌∷◌, ◌++◌, codes}
+-- The status and the text of what a command has come to.
+use Rattle.std.specs.Prelude.{ℕ, List, [], ◌++◌, Result, Ok, Err, codes}
 use Rattle.std.specs.Fmt.{decimal, signed_decimal}
 use Rattle.ckpt_base.specs.declared.ending.Ending.{Ending}
 use Rattle.ckpt_base.specs.declared.ending.Ending.TheVariants.{Ended, Trapped, Going}
 use Rattle.ckpt_program.specs.declared.refusal.Refusal.{Refusal}
 use Rattle.ckpt_program.specs.declared.refusal.Refusal.TheVariants as refusal
-use Rattle.ckpt_program.specs.declared.outcome.Counts.{Counts}
-use Rattle.ckpt_program.specs.declared.outcome.Outcome.{Outcome}
-use Rattle.ckpt_program.specs.declared.outcome.Outcome.TheVariants as outcome
-use Rattle.ckpt_program.specs.declared.outcome.Document.{Document}
-use Rattle.ckpt_program.specs.declared.outcome.Document.TheVariants as document
+use Rattle.ckpt_program.specs.declared.done.Counts.{Counts}
+use Rattle.ckpt_program.specs.declared.done.Done.{Done}
+use Rattle.ckpt_program.specs.declared.done.Done.TheVariants as done
+use Rattle.ckpt_program.specs.declared.stop.Document.TheVariants as document
+use Rattle.ckpt_program.specs.declared.stop.Cause.{Cause}
+use Rattle.ckpt_program.specs.declared.stop.Cause.TheVariants as cause
+use Rattle.ckpt_program.specs.declared.stop.Stop.{Stop}
+use Rattle.ckpt_program.specs.declared.stop.Stop.TheVariants as stop
 
--- the line that tells how a run ended and how many steps it took, without its newline
+-- ---- what a command has done
+
+-- how a run ended and how many steps it took
 abbrev pub ending_line : Ending → ℕ → List ℕ
-ending_line (Ended v) n = codes "end " ++ (signed_decimal v ++ (codes " steps " ++ decimal n))
-ending_line (Trapped t) n = codes "trap " ++ (decimal t ++ (codes " steps " ++ decimal n))
-ending_line Going n = codes "stopped steps " ++ decimal n
+ending_line (Ended v) n = codes "end " ++ (signed_decimal v ++ (codes " steps " ++ (decimal n ++ codes "\n")))
+ending_line (Trapped t) n = codes "trap " ++ (decimal t ++ (codes " steps " ++ (decimal n ++ codes "\n")))
+ending_line Going n = codes "stopped steps " ++ (decimal n ++ codes "\n")
+
+-- the output of a run, a newline, and its ending
+abbrev pub run_text : (output : List ℕ) → Ending → ℕ → List ℕ
+run_text output ending n = output ++ codes "\n" ++ ending_line ending n
 
 -- how much an accepted program has
 abbrev pub counts_line : Counts → List ℕ
-counts_line c = codes "accepted cells " ++ (decimal c.cells ++ (codes " nodes " ++ (decimal c.nodes ++ (codes " excludes " ++ decimal c.excludes))))
+counts_line c = codes "accepted cells " ++ (decimal c.cells ++ (codes " nodes " ++ (decimal c.nodes ++ (codes " excludes " ++ (decimal c.excludes ++ codes "\n")))))
 
--- why a source is refused
+abbrev pub done_text : Done → List ℕ
+done_text (done.Accepted c) = counts_line c
+done_text (done.Finished r) = run_text r.output.list r.ending r.ticks
+done_text (done.Printed t) = t
+
+-- 0 where a run ended, 3 where it trapped, 4 where it stopped at its bound
+abbrev pub ending_status : Ending → ℕ
+ending_status (Ended v) = 0
+ending_status (Trapped t) = 3
+ending_status Going = 4
+
+abbrev pub done_status : Done → ℕ
+done_status (done.Accepted c) = 0
+done_status (done.Finished r) = ending_status r.ending
+done_status (done.Printed t) = 0
+
+-- ---- why it stopped
+
 abbrev pub refusal_text : Refusal → List ℕ
 refusal_text (refusal.BadByte place) = codes "bad byte at " ++ decimal place
 refusal_text (refusal.BadNumber place) = codes "bad number at " ++ decimal place
@@ -39,54 +65,45 @@ refusal_text (refusal.TooManyLocals name) = codes "too many locals in " ++ name
 refusal_text (refusal.TooManyNodes n) = decimal n ++ codes " nodes"
 refusal_text (refusal.TooManyDirectives n) = decimal n ++ codes " excludes"
 
-abbrev pub too_large_line : Document → List ℕ
-too_large_line document.Source = codes "too large: source"
-too_large_line document.Input = codes "too large: input"
+abbrev pub refused_line : Refusal → List ℕ
+refused_line r = codes "refused: " ++ refusal_text r ++ codes "\n"
 
--- the last line of a text, without its newline
-abbrev pub last_line : Outcome → List ℕ
-last_line outcome.Usage = codes "usage: ckpt plain|check|compile|report|run|restart|images|coalesce|clear|drill|generate"
-last_line (outcome.Refused r) = codes "refused: " ++ refusal_text r
-last_line outcome.ShelfFault = codes "shelf fault"
-last_line (outcome.TooLarge d) = too_large_line d
-last_line outcome.NoMemory = codes "no memory"
-last_line (outcome.Accepted c) = counts_line c
-last_line (outcome.Finished r) = ending_line r.ending r.ticks
-last_line (outcome.Printed t) = []
+abbrev pub usage_line : List ℕ
+usage_line = codes "usage: ckpt plain|check|compile|report|run|restart|images|coalesce|clear|drill|generate\n"
 
--- what stands before the last line: the output of a run, and a newline
-abbrev pub before_line : Outcome → List ℕ
-before_line (outcome.Finished r) = r.output.list ++ 10 ∷ []
-before_line _ = []
+-- the line of a cause other than a refusal
+abbrev pub fixed_line : Cause → List ℕ
+fixed_line cause.Usage = usage_line
+fixed_line (cause.Refused r) = []
+fixed_line cause.DiskFault = codes "disk fault\n"
+fixed_line cause.ShelfFault = codes "shelf fault\n"
+fixed_line (cause.TooLarge document.Source) = codes "too large: source\n"
+fixed_line (cause.TooLarge document.Input) = codes "too large: input\n"
 
--- the text of an outcome that ends with a line of its own
-abbrev pub lines_of : Outcome → List ℕ
-lines_of o = before_line o ++ last_line o ++ 10 ∷ []
+abbrev pub cause_text : Cause → List ℕ
+cause_text (cause.Refused r) = refused_line r
+cause_text c = fixed_line c
 
--- the whole text
-abbrev pub text_of : Outcome → List ℕ
-text_of (outcome.Printed t) = t
-text_of o = lines_of o
+abbrev pub cause_status : Cause → ℕ
+cause_status cause.Usage = 1
+cause_status (cause.Refused r) = 2
+cause_status cause.DiskFault = 5
+cause_status cause.ShelfFault = 6
+cause_status (cause.TooLarge d) = 11
 
--- 0 where a run ended, 3 where it trapped, 4 where it stopped at its bound
-abbrev pub ending_status : Ending → ℕ
-ending_status (Ended v) = 0
-ending_status (Trapped t) = 3
-ending_status Going = 4
+-- ---- what a command has come to
 
-abbrev pub status_of : Outcome → ℕ
-status_of (outcome.Accepted c) = 0
-status_of (outcome.Finished r) = ending_status r.ending
-status_of (outcome.Printed t) = 0
-status_of outcome.Usage = 1
-status_of (outcome.Refused r) = 2
-status_of outcome.ShelfFault = 6
-status_of (outcome.TooLarge d) = 11
-status_of outcome.NoMemory = 12
+abbrev pub text_of : Result Done Stop → List ℕ
+text_of (Ok d) = done_text d
+text_of (Err stop.NoMemory) = codes "no memory\n"
+text_of (Err (stop.Because c)) = cause_text c
+
+abbrev pub status_of : Result Done Stop → ℕ
+status_of (Ok d) = done_status d
+status_of (Err stop.NoMemory) = 12
+status_of (Err (stop.Because c)) = cause_status c
 
 -- the status where the console did not take the whole text: 7 where the command was carried out, and else as it is
-abbrev pub broken_status : Outcome → ℕ
-broken_status (outcome.Accepted c) = 7
-broken_status (outcome.Finished r) = 7
-broken_status (outcome.Printed t) = 7
-broken_status o = status_of o
+abbrev pub broken_status : Result Done Stop → ℕ
+broken_status (Ok d) = 7
+broken_status (Err e) = status_of (Err e)

@@ -1,24 +1,37 @@
 -- What the console takes, and the status with which the program ends.
-use Rattle.std.specs.Prelude.{◌≡◌, ◌≤◌, ◌++◌, ◌⊎◌, ℕ, IsTrue, take}
+use Rattle.std.specs.Prelude.{◌≡◌, ◌≤◌, ◌++◌, ◌⊎◌, ℕ, List, IsTrue, take, Result, Ok, Err}
 use Rattle.ckpt_base.specs.Faults.{Rose}
 use Rattle.ckpt_base.specs.Sink.{SinkView}
-use Rattle.ckpt_program.specs.declared.outcome.Outcome.{Outcome}
+use Rattle.ckpt_program.specs.declared.done.Done.{Done}
+use Rattle.ckpt_program.specs.declared.stop.Cause.TheVariants as cause
+use Rattle.ckpt_program.specs.declared.stop.Stop.{Stop}
+use Rattle.ckpt_program.specs.declared.stop.Stop.TheVariants as stop
 use Rattle.ckpt_program.specs.Texts.{text_of, status_of, broken_status}
 
 -- the console took the whole text
-pub record TakesAll (o : Outcome) (old new : SinkView) (status : ℕ) : Type 0 where
+pub record TakesAll (text : List ℕ) (status : ℕ) (old new : SinkView) (result : ℕ) : Type 0 where
   pub same_tells : new.tells ≡ old.tells
   pub same_faults : new.faults ≡ old.faults
-  pub whole : IsTrue old.tells → new.written ≡ old.written ++ text_of o
-  pub status_is : status ≡ status_of o
+  pub whole : IsTrue old.tells → new.written ≡ old.written ++ text
+  pub status_is : result ≡ status
 
 -- the console failed: its count rose, and it took a prefix
-pub record TakesPart (o : Outcome) (old new : SinkView) (status : ℕ) : Type 0 where
+pub record TakesPart (text : List ℕ) (broken : ℕ) (old new : SinkView) (result : ℕ) : Type 0 where
   pub same_tells : new.tells ≡ old.tells
   pub rose : Rose old.faults new.faults × (old.faults ≤ new.faults)
-  pub prefix : IsTrue old.tells → (n : ℕ) × (new.written ≡ old.written ++ take n (text_of o))
-  pub status_is : status ≡ broken_status o
+  pub prefix : IsTrue old.tells → (n : ℕ) × (new.written ≡ old.written ++ take n text)
+  pub status_is : result ≡ broken
 
--- an outcome is told on the console
-abbrev pub Tells : Outcome → SinkView → SinkView → ℕ → Type 0
-Tells o old new status = TakesAll o old new status ⊎ TakesPart o old new status
+-- the console takes the text, with the one status where it took it all and the other where it failed
+abbrev pub Takes : (text : List ℕ) (status broken : ℕ) (old new : SinkView) (result : ℕ) → Type 0
+Takes text status broken old new result = TakesAll text status old new result ⊎ TakesPart text broken old new result
+
+-- what a command has come to is told on the console
+abbrev pub Tells : Result Done Stop → (old new : SinkView) (result : ℕ) → Type 0
+Tells o old new result = Takes (text_of o) (status_of o) (broken_status o) old new result
+
+-- its line is always the same
+abbrev pub HasFixedLine : Result Done Stop → Type 0
+HasFixedLine (Ok d) = ⊥
+HasFixedLine (Err (stop.Because (cause.Refused r))) = ⊥
+HasFixedLine (Err e) = Unit {0}

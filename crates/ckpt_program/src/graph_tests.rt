@@ -1,7 +1,7 @@
 //! The graphs of programs, from their texts: nodes, edges, what pointers may name, and what nodes kill.
 
 use crate::graphs::make_graphs;
-use crate::top::accept_text;
+use crate::stages::accept_text;
 use alias_sets::{PointerVar, find_points};
 use c_tree::Checked;
 use flow_graph::{Graphs, NodeWork};

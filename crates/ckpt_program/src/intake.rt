@@ -1,7 +1,8 @@
-ghost use Rattle.std.specs.Prelude.{◌≡◌, ◌<◌, ◌≤◌, ◌+◌, ◌++◌, length, IfOk, IfErr, IsTrue, OnErr, MatchBool, [], ◌^◌};
+ghost use Rattle.std.specs.Prelude.{◌≡◌, ◌≢◌, ◌<◌, ◌≤◌, ◌+◌, ◌++◌, length, IfOk, IfErr, IsTrue, OnErr, Err, MatchBool, [], ◌^◌};
 ghost use Rattle.ckpt_base.specs.Faults.{Rose};
 ghost use Rattle.ckpt_base.specs.Shelf.{SameShelf};
 ghost use Rattle.ckpt_program.specs.Fetched.{Gives, IsWhole, Causes};
+ghost use Rattle.ckpt_program.specs.Sight.{sight, Later};
 
 use ckpt_base::{Bytes, Failed, NoMemory, Shelf, Text};
 use std::alloc::Global;
@@ -32,9 +33,10 @@ pub fn fetch<H: Shelf>(
     limit: usize,
 ) -> Result<Bytes, FetchFault>
     requires fits { limit < 2 ^ 63 }
-    ensures same { SameShelf (H.view shelf.old) (H.view shelf.new) }
-    ensures answer { IfOk result (λ b. IsWhole (H.view shelf.old) name.now limit b.list × ((H.view shelf.new).faults ≡ (H.view shelf.old).faults)) }
-    ensures err { IfErr result (λ e. Causes (H.view shelf.old) (H.view shelf.new) name.now limit e) }
+    ensures answer { IfOk result (λ b. IsWhole (sight (H.view shelf.old)) name.now limit b.list) }
+    ensures err { IfErr result (λ e. Causes (sight (H.view shelf.old)) (sight (H.view shelf.new)) name.now limit e) }
+    ensures later { Later (sight (H.view shelf.old)) (sight (H.view shelf.new)) }
+    ensures count { result ≢ Err FetchFault.Shelf → (H.view shelf.new).faults ≡ (H.view shelf.old).faults }
 {
     let mut bytes = match Bytes::with_room(alloc, limit + 1) {
         Ok(bytes) => bytes,
@@ -57,7 +59,7 @@ fn read_up_to<H: Shelf>(shelf: &mut H, bytes: &mut Bytes, most: usize) -> Result
     requires room { most ≤ bytes.old.spare }
     requires empty { bytes.old.list ≡ [] }
     ensures same { SameShelf (H.view shelf.old) (H.view shelf.new) }
-    ensures failed { OnErr result (Rose (H.view shelf.old).faults (H.view shelf.new).faults) }
+    ensures failed { OnErr result (Rose (H.view shelf.old).faults (H.view shelf.new).faults × ((H.view shelf.old).faults ≤ (H.view shelf.new).faults)) }
     ensures counts { IfOk result (λ _. (H.view shelf.new).faults ≡ (H.view shelf.old).faults) }
     ensures answer { IfOk result (λ whole. MatchBool whole
         ((length bytes.new.list < most) × (IsTrue (H.view shelf.old).tells → (H.view shelf.old).rest ≡ bytes.new.list))

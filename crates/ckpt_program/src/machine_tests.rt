@@ -1,8 +1,8 @@
 //! The codes of programs, run on the machine with no page protected, do what the evaluator does.
 
-use crate::listing::code_of;
+use crate::code::code_of;
 use crate::machine_run::{Ran, run_code};
-use crate::top::accept_text;
+use crate::stages::accept_text;
 use c_meaning::{PlainRun, plain};
 use c_tree::Checked;
 use ckpt_base::NoMemory;

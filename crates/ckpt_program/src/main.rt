@@ -1,56 +1,71 @@
 //! The program `ckpt`: it carries out the command that its words are.
 //!
-//! `top::ckpt` is the whole program over any shelf of files and any console, and its contract is the theorem of the program.
-//! `main` gives it the files and the standard output of the host, and ends with the status that it answers.
+//! `top::ckpt` is the whole program over any shelf of files, any disk and any console, and its contract is the theorem of the
+//! program. `main` gives it the files, a directory and the standard output of the host, and ends with the status that it answers.
+//!
+//! A command is a row of stages (`specs/Rows`), and a file of its own; a stage is what its answer may be (`specs/Stages`).
 #![tactic(auto)]
 
+mod check;
 #[cfg(test)]
 mod check_rows;
+mod code;
+mod compile;
 mod console;
+mod done;
 #[cfg(test)]
 mod graph_tests;
 mod graphs;
 mod intake;
-mod listing;
 #[cfg(test)]
 mod machine_run;
 #[cfg(test)]
 mod machine_tests;
-mod outcome;
+mod plain;
 #[cfg(test)]
 mod plain_rows;
 mod refusal;
 mod report;
 #[cfg(test)]
 mod report_rows;
+mod report_text;
+mod stages;
+mod stop;
+mod telling;
 #[cfg(test)]
 mod tests;
 mod top;
-mod words;
 
 use ckpt_base::{NoMemory, Text};
-use host_edge::{FileShelf, StdSink};
-use std::env;
+use host_edge::{DirDisk, FileShelf, StdSink};
 use std::process::ExitCode;
+use std::{env, io};
 
 // The words after the program's name. Where one is no text there are none, so that they are no command.
 fn words_of(rt: &HostRuntime) -> Result<Vec<Text>, NoMemory> {
     let mut words = Vec::new(rt.alloc());
-    if let Ok(args) = env::args(rt) {
-        for word in args.skip(1) {
-            let word = Text::of(rt.alloc(), word.as_str())?;
-            words.push(word).map_err(|_| NoMemory)?;
+    match env::args(rt) {
+        Ok(args) => {
+            for word in args.skip(1) {
+                let word = Text::of(rt.alloc(), word.as_str())?;
+                words.push(word).map_err(|_| NoMemory)?;
+            }
+            Ok(words)
         }
+        Err(error) if error.kind() == io::ErrorKind::OutOfMemory => Err(NoMemory),
+        Err(_) => Ok(words),
     }
-    Ok(words)
 }
 
 fn main(rt: HostRuntime) -> ExitCode {
     let mut console = StdSink::new(rt.stdout());
-    let alloc = rt.alloc();
     let status = match words_of(&rt) {
-        Ok(words) => top::ckpt(alloc, &words, &mut FileShelf::new(rt), &mut console),
-        Err(NoMemory) => top::no_memory(&mut console),
+        Ok(words) => {
+            let mut shelf = FileShelf::new(rt);
+            let mut disk = DirDisk::new(rt);
+            top::ckpt(rt.alloc(), &words, &mut shelf, &mut disk, &mut console)
+        }
+        Err(NoMemory) => telling::no_memory(&mut console),
     };
     ExitCode::from(status)
 }

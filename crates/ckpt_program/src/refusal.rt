@@ -1,10 +1,7 @@
 ghost use Rattle.std.specs.Prelude.{◌≡◌, ◌++◌, IfOk, codes};
 ghost use Rattle.std.specs.Fmt.{decimal};
 ghost use Rattle.ckpt_program.specs.Texts as spec;
-ghost use Rattle.ckpt_program.specs.Reasons.{TextFault, RuleFault};
 
-use c_reader::ReadFault;
-use c_types::CheckFault;
 use ckpt_base::Text;
 use std::alloc::{AllocError, Global};
 
@@ -44,39 +41,6 @@ pub enum Refusal {
 }
 
 impl Refusal {
-    /// What a fault of a text is told as; none for want of memory and for too long a text.
-    pub fn of_text(fault: ReadFault) -> Option<Refusal>
-        ensures answer { TextFault fault result }
-    {
-        match fault {
-            ReadFault::Memory | ReadFault::TooLong(_) => None,
-            ReadFault::BadByte(place) => Some(Refusal::BadByte(place)),
-            ReadFault::BadNumber(place) => Some(Refusal::BadNumber(place)),
-            ReadFault::UnendedComment => Some(Refusal::UnendedComment),
-            ReadFault::Syntax(line) => Some(Refusal::Syntax(line)),
-        }
-    }
-
-    /// What a broken rule is told as; none for want of memory.
-    pub fn of_rule(fault: CheckFault) -> Option<Refusal>
-        ensures answer { RuleFault fault result }
-    {
-        match fault {
-            CheckFault::Memory => None,
-            CheckFault::Unknown(name) => Some(Refusal::Unknown(name)),
-            CheckFault::Twice(name) => Some(Refusal::Twice(name)),
-            CheckFault::NoMain => Some(Refusal::NoMain),
-            CheckFault::WrongType(line) => Some(Refusal::WrongType(line)),
-            CheckFault::WrongCount(line) => Some(Refusal::WrongCount(line)),
-            CheckFault::DirectiveOutsideMain(line) => Some(Refusal::DirectiveOutsideMain(line)),
-            CheckFault::CallsMain(line) => Some(Refusal::CallsMain(line)),
-            CheckFault::TooManyCells(n) => Some(Refusal::TooManyCells(n)),
-            CheckFault::TooManyLocals(name) => Some(Refusal::TooManyLocals(name)),
-            CheckFault::TooManyNodes(n) => Some(Refusal::TooManyNodes(n)),
-            CheckFault::TooManyDirectives(n) => Some(Refusal::TooManyDirectives(n)),
-        }
-    }
-
     /// What tells it, behind the word `refused`.
     pub fn text(&self, alloc: Global) -> Result<Vec<u8>, AllocError>
         ensures answer { IfOk result (λ t. t.items ≡ spec.refusal_text self.now) }

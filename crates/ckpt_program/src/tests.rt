@@ -5,6 +5,7 @@ use crate::plain_rows::{
 use crate::report_rows::{LISTINGS, REPORTS};
 use crate::top::ckpt;
 use ckpt_base::{Bytes, MemShelf, MemSink, Text};
+use disk_model::MemDisk;
 use std::alloc::Global;
 use std::process::Abort;
 use std::test::Fail;
@@ -61,8 +62,9 @@ fn holds(rt: &impl Abort, alloc: Global, case: &Case<'_>) -> Result<(), Fail> {
     files.push(file(rt, alloc, "source", case.source)?)?;
     files.push(file(rt, alloc, "input", case.input)?)?;
     let mut shelf = MemShelf::new(files, vec![in alloc; case.shelf_fails]?);
+    let mut disk = MemDisk::new(alloc, 0, 0, 0, Vec::new(alloc))?;
     let mut console = MemSink::new(alloc, 100_000, vec![in alloc; case.console_fails]?)?;
-    let status = ckpt(alloc, &words, &mut shelf, &mut console);
+    let status = ckpt(alloc, &words, &mut shelf, &mut disk, &mut console);
     let status_is_right = status == case.status;
     assert!(rt; status_is_right, "status {status}");
     let text_is_right = console.bytes() == case.text;

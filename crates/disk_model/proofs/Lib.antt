@@ -1,5 +1,7 @@
 -- how what a crash may leave goes on from call to call
 pub mod Calls
+-- how what is kept of a disk goes on from call to call
+pub mod Keeping
 -- what a crash may leave of a file after each change
 mod Outcomes
 -- a log that takes one entry more

@@ -12,3 +12,7 @@ pub mod MemoryFile
 pub mod MemoryDisk
 -- the changes that a disk in memory keeps
 pub mod MemoryLog
+-- what is told of a disk now
+pub mod Plate
+-- what a run of calls keeps of a disk, whatever it answers
+pub mod Keeps

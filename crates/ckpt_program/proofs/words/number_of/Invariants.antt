@@ -1,7 +1,0 @@
-use Rattle.std.proofs.Common.{◌≡◌, drop}
-use Rattle.ckpt_program.specs.Words.{number_from}
-use Rattle.ckpt_program.proofs.words.number_of.Given as goal
-
--- the number is that of the digits from here on, behind those so far
-abbrev pub invariant-digits : goal.invariant-digits
-invariant-digits l = number_from l.value (drop l.digit-index l.digits) ≡ number_from 0 l.digits

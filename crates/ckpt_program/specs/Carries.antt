@@ -1,0 +1,28 @@
+-- What the words come to: a row each.
+use Rattle.std.specs.Prelude.{◌≡◌, ℕ, List, [], Option, Some, None, Ok, Err, slice_index_or}
+use Rattle.command_words.specs.declared.command.Command.{Command}
+use Rattle.command_words.specs.declared.command.Command.TheVariants.{Plain, Check, Compile, Report}
+use Rattle.ckpt_program.specs.Sight.{Sight}
+use Rattle.ckpt_program.specs.Stage.{Stage}
+use Rattle.ckpt_program.specs.Rows as row
+use Rattle.ckpt_program.specs.declared.done.Done.{Done}
+use Rattle.ckpt_program.specs.declared.stop.Cause.TheVariants as cause
+
+-- the word at a place
+abbrev pub word_at : List (List ℕ) → ℕ → List ℕ
+word_at words place = slice_index_or words place []
+
+-- the words are no command
+abbrev pub NoCommand : Stage Done
+NoCommand (Ok d) = ⊥
+NoCommand (Err c) = c ≡ cause.Usage
+
+abbrev pub Carries : (words : List (List ℕ)) → Command → (old new : Sight) → Stage Done
+Carries words (Check source) old new = row.Check (word_at words source) old new
+Carries words (Compile source) old new = row.Compile (word_at words source) old new
+Carries words (Report source) old new = row.Report (word_at words source) old new
+Carries words (Plain source input until) old new = row.Plain (word_at words source) (word_at words input) until old new
+
+abbrev pub CarriesSome : (words : List (List ℕ)) → Option Command → (old new : Sight) → Stage Done
+CarriesSome words None old new = NoCommand
+CarriesSome words (Some command) old new = Carries words command old new

@@ -1,0 +1,173 @@
+//! Why a command stops before it is done, and what is told of that.
+
+ghost use Rattle.std.specs.Prelude.{◌≡◌, IfOk};
+ghost use Rattle.ckpt_program.specs.Fetched.{limit_of};
+ghost use Rattle.ckpt_program.specs.Texts as spec;
+
+use crate::refusal::Refusal;
+use c_reader::ReadFault;
+use c_types::CheckFault;
+use ckpt_base::{Failed, NoMemory};
+use std::alloc::{AllocError, Global};
+
+/// A file that a command reads.
+#[derive(Clone, Copy)]
+pub enum Document {
+    /// At most 262,144 bytes.
+    Source,
+    /// At most 16,777,216 bytes.
+    Input,
+}
+
+impl Document {
+    /// The most bytes that it may have.
+    pub fn limit(self) -> usize
+        ensures answer { result ≡ limit_of self }
+    {
+        match self {
+            Document::Source => 262_144,
+            Document::Input => 16_777_216,
+        }
+    }
+}
+
+/// For what cause a command stops.
+#[derive(Drop)]
+pub enum Cause {
+    /// The words are no command.
+    Usage,
+    /// The source is refused.
+    Refused(Refusal),
+    /// The disk failed.
+    DiskFault,
+    /// The shelf failed, or lacks a file that the words name.
+    ShelfFault,
+    /// A file is longer than its limit.
+    TooLarge(Document),
+}
+
+/// Why a command stops before it is done.
+#[derive(Drop)]
+pub enum Stop {
+    /// No memory was found.
+    NoMemory,
+    /// For a cause.
+    Because(Cause),
+}
+
+/// The text of usage.
+const USAGE: &[u8] =
+    b"usage: ckpt plain|check|compile|report|run|restart|images|coalesce|clear|drill|generate\n";
+
+impl Cause {
+    /// The status with which the program ends.
+    pub fn status(&self) -> u8
+        ensures answer { result ≡ spec.cause_status self.now }
+    {
+        match self {
+            Cause::Usage => 1,
+            Cause::Refused(_) => 2,
+            Cause::DiskFault => 5,
+            Cause::ShelfFault => 6,
+            Cause::TooLarge(_) => 11,
+        }
+    }
+
+    /// The line that tells it. That of a refusal is made by `refused_line`; here it is empty.
+    pub fn fixed_line(&self) -> &'static [u8]
+        ensures answer { result.now ≡ spec.fixed_line self.now }
+    {
+        match self {
+            Cause::Usage => USAGE,
+            Cause::Refused(_) => b"",
+            Cause::DiskFault => b"disk fault\n",
+            Cause::ShelfFault => b"shelf fault\n",
+            Cause::TooLarge(Document::Source) => b"too large: source\n",
+            Cause::TooLarge(Document::Input) => b"too large: input\n",
+        }
+    }
+}
+
+/// The text that tells a refusal.
+pub fn refused_line(alloc: Global, refusal: &Refusal) -> Result<Vec<u8>, AllocError>
+    ensures answer { IfOk result (λ t. t.items ≡ spec.refused_line refusal.now) }
+{
+    let mut line = Vec::from_slice(alloc, b"refused: ")?;
+    let text = refusal.text(alloc)?;
+    line.extend_from_slice(&text)?;
+    line.push(b'\n')?;
+    Ok(line)
+}
+
+impl From<NoMemory> for Stop {
+    ghost use Rattle.ckpt_program.specs.declared.stop.Stop.TheVariants as stop;
+
+    ghost from_gives = { λ _ e. e ≡ stop.NoMemory };
+
+    fn from(_: NoMemory) -> Stop {
+        Stop::NoMemory
+    }
+}
+
+impl From<AllocError> for Stop {
+    ghost use Rattle.ckpt_program.specs.declared.stop.Stop.TheVariants as stop;
+
+    ghost from_gives = { λ _ e. e ≡ stop.NoMemory };
+
+    fn from(_: AllocError) -> Stop {
+        Stop::NoMemory
+    }
+}
+
+impl From<Failed> for Stop {
+    ghost use Rattle.ckpt_program.specs.declared.stop.Stop.TheVariants as stop;
+    ghost use Rattle.ckpt_program.specs.declared.stop.Cause.TheVariants as cause;
+
+    ghost from_gives = { λ _ e. e ≡ stop.Because cause.DiskFault };
+
+    fn from(_: Failed) -> Stop {
+        Stop::Because(Cause::DiskFault)
+    }
+}
+
+impl From<ReadFault> for Stop {
+    ghost use Rattle.ckpt_program.specs.Reasons.{stop_of_text};
+
+    ghost from_gives = { λ f e. e ≡ stop_of_text f };
+
+    fn from(fault: ReadFault) -> Stop {
+        let refusal = match fault {
+            ReadFault::Memory => return Stop::NoMemory,
+            ReadFault::TooLong(_) => return Stop::Because(Cause::TooLarge(Document::Source)),
+            ReadFault::BadByte(place) => Refusal::BadByte(place),
+            ReadFault::BadNumber(place) => Refusal::BadNumber(place),
+            ReadFault::UnendedComment => Refusal::UnendedComment,
+            ReadFault::Syntax(line) => Refusal::Syntax(line),
+        };
+        Stop::Because(Cause::Refused(refusal))
+    }
+}
+
+impl From<CheckFault> for Stop {
+    ghost use Rattle.ckpt_program.specs.Reasons.{stop_of_rule};
+
+    ghost from_gives = { λ f e. e ≡ stop_of_rule f };
+
+    fn from(fault: CheckFault) -> Stop {
+        let refusal = match fault {
+            CheckFault::Memory => return Stop::NoMemory,
+            CheckFault::Unknown(name) => Refusal::Unknown(name),
+            CheckFault::Twice(name) => Refusal::Twice(name),
+            CheckFault::NoMain => Refusal::NoMain,
+            CheckFault::WrongType(line) => Refusal::WrongType(line),
+            CheckFault::WrongCount(line) => Refusal::WrongCount(line),
+            CheckFault::DirectiveOutsideMain(line) => Refusal::DirectiveOutsideMain(line),
+            CheckFault::CallsMain(line) => Refusal::CallsMain(line),
+            CheckFault::TooManyCells(n) => Refusal::TooManyCells(n),
+            CheckFault::TooManyLocals(name) => Refusal::TooManyLocals(name),
+            CheckFault::TooManyNodes(n) => Refusal::TooManyNodes(n),
+            CheckFault::TooManyDirectives(n) => Refusal::TooManyDirectives(n),
+        };
+        Stop::Because(Cause::Refused(refusal))
+    }
+}

@@ -1,0 +1,58 @@
+//! What is told on the console, and the status with which the program ends.
+
+ghost use Rattle.std.specs.Prelude.{◌≡◌, ◌⊎◌, Err};
+ghost use Rattle.ckpt_program.specs.declared.stop.Stop.TheVariants as stop;
+ghost use Rattle.ckpt_program.specs.Texts.{status_of};
+ghost use Rattle.ckpt_program.specs.Told.{Takes, Tells, HasFixedLine};
+
+use crate::console::write_all;
+use crate::done::Done;
+use crate::stop::{Cause, Stop, refused_line};
+use ckpt_base::{Failed, Sink};
+use std::alloc::Global;
+
+/// The status where the console did not take the text of a command that was carried out.
+const CONSOLE_FAULT: u8 = 7;
+
+/// The status where no memory was found.
+const NO_MEMORY: u8 = 12;
+
+/// Tells on the console what a command has come to, or that there is no memory for its text, and answers the status.
+pub fn tell<K: Sink>(alloc: Global, console: &mut K, came: &Result<Done, Stop>) -> u8
+    ensures answer { Tells came.now (K.view console.old) (K.view console.new) result ⊎ Tells (Err stop.NoMemory) (K.view console.old) (K.view console.new) result }
+    // a line that is always the same takes no memory
+    ensures fixed { HasFixedLine came.now → result ≡ status_of came.now }
+{
+    match came {
+        Ok(done) => match done.text(alloc) {
+            Ok(text) => write(console, &text, done.status(), CONSOLE_FAULT),
+            Err(_) => no_memory(console),
+        },
+        Err(Stop::NoMemory) => no_memory(console),
+        Err(Stop::Because(Cause::Refused(refusal))) => match refused_line(alloc, refusal) {
+            Ok(text) => write(console, &text, 2, 2),
+            Err(_) => no_memory(console),
+        },
+        Err(Stop::Because(cause)) => {
+            write(console, cause.fixed_line(), cause.status(), cause.status())
+        }
+    }
+}
+
+/// Tells on the console that no memory was found, and answers the status for that.
+pub fn no_memory<K: Sink>(console: &mut K) -> u8
+    ensures answer { Tells (Err stop.NoMemory) (K.view console.old) (K.view console.new) result }
+    ensures status { result ≡ 12 }
+{
+    write(console, b"no memory\n", NO_MEMORY, NO_MEMORY)
+}
+
+// Writes a text, and answers the one status where the console took it, and the other where it failed.
+fn write<K: Sink>(console: &mut K, text: &[u8], status: u8, broken: u8) -> u8
+    ensures answer { Takes text.now status broken (K.view console.old) (K.view console.new) result }
+{
+    match write_all(console, text) {
+        Ok(()) => status,
+        Err(Failed) => broken,
+    }
+}
