@@ -107,7 +107,7 @@ module _ (s : Source) (is : IsSource s) (every node t : ℕ) (es : List Event) (
         let k = S.directive in
         let within : k ≤ exclude_count s.graph = (let h = within_list s.sets.dead k c holds in let e = is.sets.dead_len in omega (arith, h, e)) in
         let dead : IsDead s.graph k c = ((is.sets.dead k (let z = zero_least k some in z) within).exact c lt_cells).0 holds in
-        kept ((spared c lt).dead k node t u.behind (u.before, [], split_at u.before u.behind (Excluded k) u.split) u.none dead)
+        kept ((spared c lt).dead k node t u.before u.behind [] (split_at u.before u.behind (Excluded k) u.split) u.none dead)
       where
         zero_least : (k : ℕ) → (k ≡ 0 → ⊥) → 1 ≤ k
         zero_least zero h = absurd (h refl)
@@ -119,7 +119,7 @@ module _ (s : Source) (is : IsSource s) (every node t : ℕ) (es : List Event) (
         let k = S.directive in
         let within : k ≤ exclude_count s.graph = (let h = within_list s.sets.read_only k c holds in let e = is.sets.read_only_len in omega (arith, h, e)) in
         let only : IsReadOnly s.graph k c = ((is.sets.read_only k (zero_least k some) within).exact c lt_cells).0 holds in
-        let never = (spared c lt).read_only k node t u.behind (u.before, [], split_at u.before u.behind (Excluded k) u.split) u.none only in
+        let never = (spared c lt).read_only k node t u.before u.behind [] (split_at u.before u.behind (Excluded k) u.split) u.none only in
         (facts.included included, by_written (has_cell S.written c) refl (λ e. never (u.within included c e)))
       where
         zero_least : (k : ℕ) → (k ≡ 0 → ⊥) → 1 ≤ k
@@ -163,7 +163,7 @@ module _ (s : Source) (is : IsSource s) (every node t : ℕ) (es : List Event) (
           fresh = ap (λ (b : Bool). b || has_cell S.written c) (zero_not S.number h.0) ∙ h.1
 
           stays : IsForgettable s.graph c past.image.fields.node → ⊥
-          stays forgets = kept ((spared c lt).stays past.image.fields.node past.tick node t past.behind (past.before, [], split_at past.before past.behind (Checkpoint past.image.fields.node past.tick) past.split) (past.spared c h.1) forgets)
+          stays forgets = kept ((spared c lt).stays past.image.fields.node past.tick node t past.before past.behind [] (split_at past.before past.behind (Checkpoint past.image.fields.node past.tick) past.split) forgets (past.spared c h.1))
 
           none_image : (x : TakenImage) (xs : List TakenImage) → xs ++ x ∷ [] ≡ [] → ⊥
           none_image x [] e = cc
