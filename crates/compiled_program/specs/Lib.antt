@@ -1,0 +1,2 @@
+-- what a life asks of a compiled program
+pub mod CanRun
