@@ -1,4 +1,4 @@
-ghost use Rattle.std.specs.Prelude.{◌≡◌, ◌≤◌, ◌+◌, ◌^◌, length, IfOk, OnOk};
+ghost use Rattle.std.specs.Prelude.{◌≡◌, ◌≤◌, length, IfOk, IsTrue};
 
 use disk_model::DiskFile;
 use std::fs::{self, File, OpenOptions};
@@ -162,16 +162,46 @@ fn joined(rt: &HostRuntime, dir: &str, name: &str) -> io::Result<String> {
 
 // Makes the directory where it is missing, and its name lasting.
 fn make_dir(rt: &HostRuntime, path: &str) -> io::Result<()> {
-    match fs::create_dir(rt, path) {
-        Ok(()) => {}
-        Err(e) if e.kind() == io::ErrorKind::AlreadyExists => {}
+    let made = match fs::create_dir(rt, path) {
+        Ok(()) => true,
+        Err(e) if e.kind() == io::ErrorKind::AlreadyExists => false,
         Err(e) => return Err(e),
+    };
+    let answer = judged(made, sync_parent(rt, path));
+    if made && answer.is_err() {
+        fs::remove_dir(rt, path)?;
     }
+    answer
+}
+
+fn sync_parent(rt: &HostRuntime, path: &str) -> io::Result<()> {
     match Path::new(path).parent() {
         Some(parent) if parent.as_str().is_empty() => File::open(rt, ".")?.sync_all(),
         Some(parent) => File::open(rt, parent)?.sync_all(),
         None => Ok(()),
     }
+}
+
+// The parent of a directory that was there already may be closed to us, or unable to be synced.
+fn judged(made: bool, synced: io::Result<()>) -> io::Result<()>
+    ensures made { IsTrue made → result ≡ synced }
+    ensures ok { IfOk synced (λ _. result ≡ synced) }
+{
+    match synced {
+        Err(e) if !made && may_pass(e.kind()) => Ok(()),
+        answer => answer,
+    }
+}
+
+// A system that cannot sync directories calls the sync invalid.
+fn may_pass(kind: io::ErrorKind) -> bool {
+    matches!(
+        kind,
+        io::ErrorKind::PermissionDenied
+            | io::ErrorKind::Unsupported
+            | io::ErrorKind::InvalidInput
+            | io::ErrorKind::ReadOnlyFilesystem
+    )
 }
 
 // Takes the lock of the store, which is held while the file is open.
