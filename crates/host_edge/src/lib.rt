@@ -14,6 +14,7 @@ mod dir_disk;
 mod file_shelf;
 mod std_sink;
 mod store_dir;
+mod store_file;
 #[cfg(test)]
 mod tests;
 

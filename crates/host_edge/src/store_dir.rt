@@ -1,5 +1,6 @@
-ghost use Rattle.std.specs.Prelude.{◌≡◌, ◌≤◌, ◌+◌, ◌^◌, length, IfOk, OnOk};
+ghost use Rattle.std.specs.Prelude.{◌≡◌, ◌≤◌, length, IfOk, IsTrue};
 
+use crate::store_file::{made_with, opened, refuse_same, remove_left_over};
 use disk_model::DiskFile;
 use std::fs::{self, File, OpenOptions};
 use std::io;
@@ -21,20 +22,37 @@ impl StoreDir {
     /// Makes the directory where it is missing, and takes its lock. From then on the directory and the names in it are lasting.
     pub(crate) fn enter(rt: &HostRuntime, path: &str) -> io::Result<StoreDir> {
         make_dir(rt, path)?;
-        let dir = File::open(rt, path)?;
-        let lock = locked(rt, path)?;
-        let output = opened(rt, path, "output")?;
-        let one = opened(rt, path, "image1")?;
-        let two = opened(rt, path, "image2")?;
-        dir.sync_all()?;
-        Ok(StoreDir {
+        let mut store = StoreDir {
             path: String::from_str(rt.alloc(), path)?,
-            dir,
-            _lock: lock,
-            output,
-            one,
-            two,
-        })
+            dir: File::open(rt, path)?,
+            _lock: locked(rt, path)?,
+            output: None,
+            one: None,
+            two: None,
+        };
+        store.find(rt, DiskFile::Output)?;
+        store.find(rt, DiskFile::One)?;
+        store.find(rt, DiskFile::Two)?;
+        store.dir.sync_all()?;
+        Ok(store)
+    }
+
+    // Takes a file where it is there.
+    fn find(&mut self, rt: &HostRuntime, file: DiskFile) -> io::Result<()> {
+        let path = joined(rt, &self.path, name_of(file))?;
+        if let Some(found) = opened(rt, path.as_str())? {
+            self.refuse_known(&found)?;
+            self.set_file(file, found);
+        }
+        Ok(())
+    }
+
+    // Refuses a file that the store has under another name.
+    fn refuse_known(&self, file: &File) -> io::Result<()> {
+        let found = file.metadata()?;
+        refuse_same(&self.output, &found)?;
+        refuse_same(&self.one, &found)?;
+        refuse_same(&self.two, &found)
     }
 
     fn file(&self, file: DiskFile) -> Option<&File> {
@@ -91,11 +109,11 @@ impl StoreDir {
             return Ok(());
         }
         let path = joined(rt, &self.path, name_of(file))?;
-        let made = OpenOptions::new()
-            .read(true)
-            .write(true)
-            .create(true)
-            .open(rt, path.as_str())?;
+        let made = match opened(rt, path.as_str())? {
+            Some(found) => found,
+            None => File::create_new(rt, path.as_str())?,
+        };
+        self.refuse_known(&made)?;
         self.dir.sync_all()?;
         self.set_file(file, made);
         Ok(())
@@ -117,7 +135,7 @@ impl StoreDir {
         }
     }
 
-    /// Replaces a file by one with these bytes, which is lasting before it takes the name.
+    /// Replaces a file by one with these bytes and its mode, which is lasting before it takes the name.
     pub(crate) fn start_file(
         &mut self,
         rt: &HostRuntime,
@@ -126,12 +144,11 @@ impl StoreDir {
     ) -> io::Result<()> {
         let path = joined(rt, &self.path, name_of(file))?;
         let new_path = joined(rt, &self.path, new_name_of(file))?;
-        let new = OpenOptions::new()
-            .read(true)
-            .write(true)
-            .create(true)
-            .truncate(true)
-            .open(rt, new_path.as_str())?;
+        remove_left_over(rt, new_path.as_str())?;
+        let new = match self.file(file) {
+            Some(old) => made_with(rt, new_path.as_str(), old.metadata()?.permissions())?,
+            None => File::create_new(rt, new_path.as_str())?,
+        };
         new.write_all_at(header, 0)?;
         new.sync_all()?;
         fs::rename(rt, new_path.as_str(), path.as_str())?;
@@ -162,16 +179,46 @@ fn joined(rt: &HostRuntime, dir: &str, name: &str) -> io::Result<String> {
 
 // Makes the directory where it is missing, and its name lasting.
 fn make_dir(rt: &HostRuntime, path: &str) -> io::Result<()> {
-    match fs::create_dir(rt, path) {
-        Ok(()) => {}
-        Err(e) if e.kind() == io::ErrorKind::AlreadyExists => {}
+    let made = match fs::create_dir(rt, path) {
+        Ok(()) => true,
+        Err(e) if e.kind() == io::ErrorKind::AlreadyExists => false,
         Err(e) => return Err(e),
+    };
+    let answer = judged(made, sync_parent(rt, path));
+    if made && answer.is_err() {
+        fs::remove_dir(rt, path)?;
     }
+    answer
+}
+
+fn sync_parent(rt: &HostRuntime, path: &str) -> io::Result<()> {
     match Path::new(path).parent() {
         Some(parent) if parent.as_str().is_empty() => File::open(rt, ".")?.sync_all(),
         Some(parent) => File::open(rt, parent)?.sync_all(),
         None => Ok(()),
     }
+}
+
+// The parent of a directory that was there already may be closed to us, or unable to be synced.
+fn judged(made: bool, synced: io::Result<()>) -> io::Result<()>
+    ensures made { IsTrue made → result ≡ synced }
+    ensures ok { IfOk synced (λ _. result ≡ synced) }
+{
+    match synced {
+        Err(e) if !made && may_pass(e.kind()) => Ok(()),
+        answer => answer,
+    }
+}
+
+// A system that cannot sync directories calls the sync invalid.
+fn may_pass(kind: io::ErrorKind) -> bool {
+    matches!(
+        kind,
+        io::ErrorKind::PermissionDenied
+            | io::ErrorKind::Unsupported
+            | io::ErrorKind::InvalidInput
+            | io::ErrorKind::ReadOnlyFilesystem
+    )
 }
 
 // Takes the lock of the store, which is held while the file is open.
@@ -184,20 +231,6 @@ fn locked(rt: &HostRuntime, dir: &str) -> io::Result<File> {
         .open(rt, path.as_str())?;
     lock.try_lock()?;
     Ok(lock)
-}
-
-// Opens a file where it is there.
-fn opened(rt: &HostRuntime, dir: &str, name: &str) -> io::Result<Option<File>> {
-    let path = joined(rt, dir, name)?;
-    match OpenOptions::new()
-        .read(true)
-        .write(true)
-        .open(rt, path.as_str())
-    {
-        Ok(file) => Ok(Some(file)),
-        Err(e) if e.kind() == io::ErrorKind::NotFound => Ok(None),
-        Err(e) => Err(e),
-    }
 }
 
 fn read_whole(file: &File, at: u64, buf: &mut [u8]) -> io::Result<usize>
