@@ -11,7 +11,8 @@ use Rattle.image_chain.specs.Records.{broken_field, newest_of}
 use Rattle.image_chain.specs.Replace.{next_header, IsNotOpen, IsAsideOrShut, ListsJoined, OnlyOther, IsReplaced}
 use Rattle.coalesce.specs.Join.{Joins}
 use Rattle.run_images.specs.Source.{Source}
-use Rattle.run_images.specs.Stands.{IsOpenIn, StandsWithin, StandWith, ChainStands}
+use Rattle.run_images.specs.Stands.{StandsWithin, StandWith, ChainStands}
+use Rattle.image_chain.specs.Files.{IsOpenIn}
 use Rattle.run_images.specs.Later.{IsLater}
 use Rattle.run_images.proofs.Outcomes.{IsListedIn, IsJoinedIn}
 use Rattle.run_images.proofs.ListedLaws.{listed_stand}

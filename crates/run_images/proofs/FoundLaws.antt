@@ -10,7 +10,8 @@ use Rattle.image_format.specs.Reading.{◌>>=◌}
 use Rattle.image_chain.specs.Append.{other}
 use Rattle.image_chain.specs.Records.{Damage, Found, header_in, only_open, newer, records_at, newest_of, in_number, found_in, chain_in}
 use Rattle.run_images.specs.Source.{Source}
-use Rattle.run_images.specs.Stands.{IsOpenIn, FileLists, StandsWithin}
+use Rattle.run_images.specs.Stands.{StandsWithin}
+use Rattle.image_chain.specs.Files.{IsOpenIn, FileLists}
 use Rattle.run_images.proofs.Outcomes.{IsFoundIn}
 use Rattle.run_images.proofs.StandLaws.{open_is, none_found, same_found}
 

@@ -12,7 +12,8 @@ use Rattle.run_images.specs.Source.{Source, output_of, images_of}
 use Rattle.image_chain.specs.Lists.{found_of}
 use Rattle.coalesce.specs.Join.{Joins}
 use Rattle.run_images.proofs.JoinLaws.{joined_joins}
-use Rattle.run_images.specs.Stands.{IsOpenIn, FileLists, StandsFor, StandsWithin}
+use Rattle.run_images.specs.Stands.{StandsFor, StandsWithin}
+use Rattle.image_chain.specs.Files.{IsOpenIn, FileLists}
 use Rattle.run_images.proofs.Outcomes.{IsJoinedIn, IsFoundIn}
 use Rattle.run_images.proofs.FoundLaws.{found_there, this_or_other, same_open, same_lists}
 use Rattle.run_images.proofs.OutputLaws.{open_same, lists_same}

@@ -17,7 +17,8 @@ use Rattle.machine_code.specs.Run.{next_row, unprotected}
 use Rattle.code_maker.specs.ProgramCode.{code_of}
 use Rattle.code_maker.specs.CodeMeaning.{world_at, MeansGraphs}
 use Rattle.run_images.specs.Source.{Source, IsSource, run_of, output_of}
-use Rattle.run_images.specs.Stands.{FileLists, Stands, StandsFor, StandsWithin, StandWith}
+use Rattle.run_images.specs.Stands.{Stands, StandsFor, StandsWithin, StandWith}
+use Rattle.image_chain.specs.Files.{FileLists}
 use Rattle.run_images.proofs.Outcomes.{IsFoundIn}
 use Rattle.run_images.proofs.StandLaws.{kept_stands}
 use Rattle.run_images.proofs.FoundLaws.{found_there, this_or_other, same_lists, other_not}

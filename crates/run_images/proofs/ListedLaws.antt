@@ -10,7 +10,8 @@ use Rattle.image_format.specs.Image.{Image}
 use Rattle.image_chain.specs.Append.{other}
 use Rattle.image_chain.specs.Records.{newest_of}
 use Rattle.run_images.specs.Source.{Source, output_of}
-use Rattle.run_images.specs.Stands.{IsOpenIn, FileLists, StandsFor, StandsWithin, StandWith}
+use Rattle.run_images.specs.Stands.{StandsFor, StandsWithin, StandWith}
+use Rattle.image_chain.specs.Files.{IsOpenIn, FileLists}
 use Rattle.run_images.proofs.Outcomes.{IsListedIn, IsFoundIn, NoneAhead}
 use Rattle.run_images.proofs.FoundLaws.{found_there, other_not, this_or_other, same_open, same_lists, chainless_stands}
 use Rattle.run_images.proofs.OutputLaws.{open_same, lists_same, stands_on, front_length}

@@ -9,7 +9,7 @@ use Rattle.image_format.specs.Image.{Image}
 use Rattle.image_chain.specs.Records.{Found, header_in, chain_in, newest_of}
 use Rattle.image_chain.specs.Append.{other}
 use Rattle.image_chain.specs.Lists.{found_of}
-use Rattle.run_images.specs.Stands.{IsOpenIn, FileLists}
+use Rattle.image_chain.specs.Files.{IsOpenIn, FileLists}
 
 -- An earlier outcome, but that this image file is current and lists these records: the output is as it was, and so is the other image file, or it is not open.
 pub record IsListedIn (f : DiskFile) (h : Header) (rs : List Image) (old new : Store) : Type 0 where

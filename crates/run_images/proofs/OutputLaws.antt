@@ -9,7 +9,8 @@ use Rattle.image_format.specs.Image.{Image}
 use Rattle.image_chain.specs.Records.{header_in, records_at}
 use Rattle.output_file.specs.OnDisk.{IsBehind}
 use Rattle.run_images.specs.Source.{Source, output_of}
-use Rattle.run_images.specs.Stands.{IsOpenIn, FileLists, StandsFor, StandsWithin}
+use Rattle.run_images.specs.Stands.{StandsFor, StandsWithin}
+use Rattle.image_chain.specs.Files.{IsOpenIn, FileLists}
 
 front_stays : (n : ℕ) (o x y : List ℕ) → length o ≤ n → take n y ≡ take n x → take (length o) x ≡ o → take (length o) y ≡ o
 front_stays n o x y le e is = sym (take-take (length o) n y le) ∙ ap (take (length o)) e ∙ take-take (length o) n x le ∙ is

@@ -9,7 +9,8 @@ use Rattle.image_format.specs.Image.{Image}
 use Rattle.image_format.specs.Reading.{◌>>=◌}
 use Rattle.image_chain.specs.Records.{Damage, Found, header_in, only_open, newer, newest_of, in_number, found_in, chain_in}
 use Rattle.run_images.specs.Source.{Source}
-use Rattle.run_images.specs.Stands.{IsOpenIn, FileLists, Stands, StandsFor}
+use Rattle.run_images.specs.Stands.{Stands, StandsFor}
+use Rattle.image_chain.specs.Files.{IsOpenIn, FileLists}
 
 -- the chain of a store with these headers
 pub chain_by : (c : Store) (one two : Option Header) (current : Option (DiskFile × Header)) → header_in One c.one ≡ Ok one → header_in Two c.two ≡ Ok two → newer (only_open one) (only_open two) ≡ Ok current → chain_in c ≡ found_in c current

@@ -1,5 +1,5 @@
 -- A store that stands for a source: each of its chains has the images of the source's run up to some checkpoint, with the memory that the run had there.
-use Rattle.std.specs.Prelude.{◌≡◌, ◌≢◌, ◌⊎◌, ℕ, ◌+◌, ◌<◌, ◌≤◌, true, List, [], length, take, Option, Some, None, Ok}
+use Rattle.std.specs.Prelude.{◌≡◌, ◌≢◌, ◌⊎◌, ℕ, ◌<◌, ◌≤◌, List, [], length, take, Option, Some, None, Ok}
 use Rattle.disk_model.specs.declared.disk_file.DiskFile.{DiskFile}
 use Rattle.disk_model.specs.declared.disk_file.DiskFile.TheVariants.{Output, One, Two}
 use Rattle.disk_model.specs.Store.{Store, file_of}
@@ -9,7 +9,8 @@ use Rattle.image_format.specs.declared.header.Header.{Header}
 use Rattle.image_format.specs.Image.{Image}
 use Rattle.image_chain.specs.declared.chain.Current.{Current}
 use Rattle.image_chain.specs.Lists.{Lists}
-use Rattle.image_chain.specs.Records.{header_in, records_at, newest_of, in_number}
+use Rattle.image_chain.specs.Records.{header_in, newest_of}
+use Rattle.image_chain.specs.Files.{IsOpenIn, FileLists}
 use Rattle.run_images.specs.Source.{Source, run_of, output_of, images_of}
 use Rattle.run_images.specs.JoinedList.{IsJoinedList}
 use Rattle.run_images.specs.Hold.{HoldWords}
@@ -22,17 +23,6 @@ pub record StandsFor (s : Source) (every : ℕ) (rs : List Image) (file : List �
   pub joined : IsJoinedList rs (images_of s every newest.steps)
   pub begins : take (length (output_of s newest.steps)) file ≡ output_of s newest.steps
   pub words : HoldWords s newest.node rs (run_of s newest.steps).memory
-
--- an image file has a good header with an open gate
-pub record IsOpenIn (f : DiskFile) (h : Header) (c : Store) : Type 0 where
-  pub header : header_in f (file_of f c) ≡ Ok (Some h)
-  pub gate : h.gate_open ≡ true
-
--- an image file that is open has these records, and its generation is not ahead of their number
-pub record FileLists (f : DiskFile) (h : Header) (rs : List Image) (c : Store) : Type 0 where
-  pub open_in : IsOpenIn f h c
-  pub read : records_at h.max f (file_of f c) None 15 ≡ Ok rs
-  pub number : in_number f (h.generation + length rs) (newest_of None rs) ≡ Ok tt
 
 -- Each chain of the store stands for the source, whichever of the two a crash makes current.
 pub record Stands (s : Source) (c : Store) : Type 0 where
