@@ -1,0 +1,26 @@
+ghost use Rattle.std.specs.Prelude.{◌≡◌};
+
+use std::marker::Model;
+
+/// A walk, seen as the list of its nodes.
+#[derive(Drop)]
+pub struct Walk {
+    pub(crate) nodes: Vec<u32>,
+}
+
+impl Model for Walk {
+    ghost use Rattle.std.specs.Prelude.{List, ℕ};
+
+    ghost Value = { List ℕ };
+
+    ghost view = { λ w. w.nodes.items };
+}
+
+impl Walk {
+    /// The nodes, from the EXCLUDE_HERE on.
+    pub fn nodes(&self) -> &[u32]
+        ensures answer { result.now ≡ self.now }
+    {
+        &self.nodes
+    }
+}
