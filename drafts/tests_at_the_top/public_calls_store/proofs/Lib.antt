@@ -1,2 +1,0 @@
--- a disk in memory that is empty has no chain
-mod EmptyStore
