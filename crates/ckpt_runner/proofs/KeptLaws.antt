@@ -16,7 +16,7 @@ use Rattle.coalesce.specs.Join.{IsContent}
 use Rattle.output_file.specs.OnDisk.{IsOutputOn}
 use Rattle.life_journal.specs.JournalView.{JournalView}
 use Rattle.life_journal.specs.Holding.{HoldsJournal}
-use Rattle.life_journal.specs.Joining.{AreJoined}
+use Rattle.life_journal.specs.Joining.{StayOrJoin}
 use Rattle.run_images.specs.Since.{Since, is_due, since_after}
 use Rattle.run_images.specs.Images.{Taking, TakenImage, fields_at, taken_at, images_from, lists_at}
 use Rattle.run_images.specs.JoinedList.{lists_cell, IsOf, IsJoinedList}
@@ -121,14 +121,14 @@ record_is T node tick s fields runs frames same lists words = record {
 }
 
 -- records that were joined stand for the same images
-pub joined_still : (rs qs : List Image) (images : List TakenImage) → AreJoined rs qs → IsJoinedList rs images → IsJoinedList qs images
+pub joined_still : (rs qs : List Image) (images : List TakenImage) → StayOrJoin rs qs → IsJoinedList rs images → IsJoinedList qs images
 joined_still rs qs images are all = ⊎_elim
     (λ same. subst (λ (l : List Image). IsJoinedList l images) (sym same) all)
     (λ joins. subst (λ (l : List Image). IsJoinedList l images) (sym joins.2) (joined_joins rs joins.0 images all joins.1)) are
 
 -- Behind a checkpoint that is due a life keeps one image more, where its record was written behind records that may have been joined.
 pub image_rests : (o : Origin) (es : List Event) (node tick : ℕ) (old new : LifeView) (u v : View) (r : Image) → is_due o.taking.every (since_now o es) tick ≡ true → IsOf r (taken_at o.taking node tick (since_now o es)) → NoneSnapped new.pages
-    → ((rs : List Image) (w : List ℕ) → HoldsJournal old.journal u rs w → (qs : List Image) × AreJoined rs qs × HoldsJournal new.journal v (qs ++ r ∷ []) w) → RestsWith o es old u → RestsWith o (es ++ Checkpoint node tick ∷ []) new v
+    → ((rs : List Image) (w : List ℕ) → HoldsJournal old.journal u rs w → (qs : List Image) × StayOrJoin rs qs × HoldsJournal new.journal v (qs ++ r ∷ []) w) → RestsWith o es old u → RestsWith o (es ++ Checkpoint node tick ∷ []) new v
 image_rests o es node tick old new u v r due is none saved rest =
     let s = since_now o es in
     let now = saved rest.records (bytes_now o es) rest.holds in

@@ -6,7 +6,7 @@ ghost use Rattle.dirty_pages.specs.Pages.{PageStates};
 ghost use Rattle.disk_model.specs.View.{View};
 ghost use Rattle.image_format.specs.Image.{Image};
 ghost use Rattle.life_journal.specs.Holding.{HoldsJournal};
-ghost use Rattle.life_journal.specs.Joining.{AreJoined};
+ghost use Rattle.life_journal.specs.Joining.{StayOrJoin};
 ghost use Rattle.machine_code.specs.declared.event.Event.{Event};
 ghost use Rattle.machine_code.specs.Memory.{FitsMemory};
 ghost use Rattle.machine_code.specs.State.{State};
@@ -32,6 +32,6 @@ pub fn lives_go_on()
 /// Behind a checkpoint that is due a life that was at rest keeps one image more, where its record was written behind the records, which may have been joined before.
 pub fn images_are_kept<D: Disk>(before: &D, after: &D)
     ensures law { (o : Origin) (es : List run.Event) (node tick : ℕ) (old new : LifeView) (r : Image) → is_due o.taking.every (since_now o es) tick ≡ true → IsOf r (taken_at o.taking node tick (since_now o es)) → old.writer ≡ Idle → new.writer ≡ Idle → NoneSnapped new.pages
-        → ((rs : List Image) (w : List ℕ) → HoldsJournal old.journal (D.view before.now) rs w → (qs : List Image) × AreJoined rs qs × HoldsJournal new.journal (D.view after.now) (qs ++ r ∷ []) w)
+        → ((rs : List Image) (w : List ℕ) → HoldsJournal old.journal (D.view before.now) rs w → (qs : List Image) × StayOrJoin rs qs × HoldsJournal new.journal (D.view after.now) (qs ++ r ∷ []) w)
         → Kept o es old (D.view before.now) → Kept o (es ++ run.Checkpoint node tick ∷ []) new (D.view after.now) }
 {}

@@ -22,7 +22,7 @@ use Rattle.output_file.specs.Pushed.{Pushed}
 use Rattle.output_file.specs.OnDisk.{IsOutputOn, IsBehind}
 use Rattle.life_journal.specs.JournalView.{JournalView}
 use Rattle.life_journal.specs.Holding.{HoldsJournal}
-use Rattle.life_journal.specs.Joining.{AreJoined, MayBeJoined}
+use Rattle.life_journal.specs.Joining.{StayOrJoin, MayBeJoined}
 use Rattle.life_journal.specs.Begun.{HasNoChain}
 use Rattle.life_journal.proofs.BesideLaws.{rests_beside, output_beside}
 
@@ -50,7 +50,7 @@ joined_content : (kept : Joined) (rs : List Image) (r : Image) → IsContent kep
 joined_content kept rs r content joins = λ c. content c ∙ sym (joins.words c)
 
 pub joined_holds : (j k : JournalView) (u v : View) (rs : List Image) (w : List ℕ) (r : Image) → k.kept ≡ j.kept → k.output ≡ j.output → SameFile Output u v → Joins rs r → Rests k.chain v (r ∷ []) → HoldsJournal j u rs w
-    → (qs : List Image) × AreJoined rs qs × HoldsJournal k v qs w
+    → (qs : List Image) × StayOrJoin rs qs × HoldsJournal k v qs w
 joined_holds j k u v rs w r kept output same joins rests h = (
   r ∷ [],
   inr (r, joins, refl),
@@ -61,7 +61,7 @@ joined_holds j k u v rs w r kept output same joins rests h = (
   },
 )
 
-pub unjoined_holds : (j : JournalView) (u : View) (rs : List Image) (w : List ℕ) → HoldsJournal j u rs w → (qs : List Image) × AreJoined rs qs × HoldsJournal j u qs w
+pub unjoined_holds : (j : JournalView) (u : View) (rs : List Image) (w : List ℕ) → HoldsJournal j u rs w → (qs : List Image) × StayOrJoin rs qs × HoldsJournal j u qs w
 unjoined_holds j u rs w h = (rs, inl refl, h)
 
 pub unjoined_moments : (u : View) (chain : Current) (rs : List Image) → (IsTrue u.tells → IsDisk u) → (IsTrue u.tells_past → IsTrue u.tells) → LeavesOnly u u (Among u.may_leave (MayBeJoined chain rs))

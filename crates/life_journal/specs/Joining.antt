@@ -7,8 +7,8 @@ use Rattle.image_chain.specs.Replace.{IsReplaced}
 use Rattle.coalesce.specs.Join.{Joins}
 
 -- the records are as they were, or one record joins them
-abbrev pub AreJoined : List Image → List Image → Type 0
-AreJoined rs qs = (qs ≡ rs) ⊎ ((r : Image) × Joins rs r × (qs ≡ r ∷ []))
+abbrev pub StayOrJoin : List Image → List Image → Type 0
+StayOrJoin rs qs = (qs ≡ rs) ⊎ ((r : Image) × Joins rs r × (qs ≡ r ∷ []))
 
 -- an earlier outcome, or one in which the records were replaced by one that joins them, or are being so
 abbrev pub MayBeJoined : Current → List Image → Store → Store → Type 0

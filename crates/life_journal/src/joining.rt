@@ -5,7 +5,7 @@ ghost use Rattle.disk_model.specs.View.{Steady};
 ghost use Rattle.disk_model.specs.Moments.{Among, LeavesOnly};
 ghost use Rattle.image_format.specs.Image.{Image};
 ghost use Rattle.life_journal.specs.Holding.{HoldsJournal, FitsDisk};
-ghost use Rattle.life_journal.specs.Joining.{AreJoined, MayBeJoined};
+ghost use Rattle.life_journal.specs.Joining.{StayOrJoin, MayBeJoined};
 
 use crate::journal::Journal;
 use cell_sets::RunList;
@@ -24,7 +24,7 @@ impl Journal {
         ensures newest { OnOk result (self.new.chain.current.newest ≡ self.old.chain.current.newest) }
         ensures every { OnOk result (self.new.chain.current.every ≡ self.old.chain.current.every) }
         ensures holds { OnOk result (IsTrue (D.view disk.old).tells → (rs : List Image) (written : List ℕ) → HoldsJournal self.old (D.view disk.old) rs written
-            → (qs : List Image) × AreJoined rs qs × HoldsJournal self.new (D.view disk.new) qs written) }
+            → (qs : List Image) × StayOrJoin rs qs × HoldsJournal self.new (D.view disk.new) qs written) }
         ensures any_moment { IsTrue (D.view disk.old).tells → (rs : List Image) (written : List ℕ) → HoldsJournal self.old (D.view disk.old) rs written
             → LeavesOnly (D.view disk.old) (D.view disk.new) (Among (D.view disk.old).may_leave (MayBeJoined self.old.chain.current rs)) }
         ensures failed { OnErr result (Rose (D.view disk.old).faults (D.view disk.new).faults) }
