@@ -7,5 +7,3 @@ pub mod Adding
 pub mod CallLaws
 -- the sets that the solver finds are the cells that functions may access
 pub mod SummaryLaws
--- the small program keeps the rules
-pub mod CallingLaws

@@ -10,5 +10,3 @@ pub mod Touch
 pub mod Summaries
 -- the edges of the graph of calls
 pub mod CallEdges
--- a small program, for tests
-pub mod Calling

@@ -12,10 +12,6 @@ mod calls;
 mod edge_list;
 mod effects;
 mod summaries;
-#[cfg(test)]
-mod test_trees;
-#[cfg(test)]
-mod tests;
 mod touch;
 
 pub use bodies::{answer_effects, assign_effects, call_effects, declare_effects, input_effects};

@@ -14,5 +14,3 @@ mod statements;
 pub use flows::{PointerVar, Source};
 pub use points::{Points, find_points};
 
-#[cfg(test)]
-mod tests;

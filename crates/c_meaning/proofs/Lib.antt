@@ -3,6 +3,5 @@ pub mod Calls
 pub mod Did
 pub mod Going
 pub mod Enter
-pub mod Moved
 pub mod Turn
 pub mod Values

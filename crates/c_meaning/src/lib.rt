@@ -11,8 +11,6 @@ mod memory;
 mod pointer;
 mod progress;
 mod run;
-#[cfg(test)]
-mod tests;
 mod value;
 mod work;
 

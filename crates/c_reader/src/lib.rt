@@ -31,5 +31,3 @@ pub use fault::ReadFault;
 pub use laws::texts_spell_one_program;
 pub use reader::read;
 
-#[cfg(test)]
-mod tests;

@@ -23,5 +23,3 @@ pub use cell_test::CellTest;
 pub use run_list::{RUN_LIST_ROOM, RunList};
 pub use runs::Run;
 
-#[cfg(test)]
-mod tests;

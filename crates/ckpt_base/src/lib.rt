@@ -5,10 +5,9 @@ mod bytes;
 mod ending;
 mod errors;
 mod faults;
+pub mod pointer;
 mod shelf;
 mod sink;
-#[cfg(test)]
-mod tests;
 mod text;
 mod trap;
 pub mod word;

@@ -6,7 +6,5 @@
 
 mod find;
 mod joining;
-#[cfg(test)]
-mod tests;
 
 pub use joining::join;

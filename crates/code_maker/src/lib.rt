@@ -11,8 +11,6 @@ mod maker;
 mod node_code;
 mod resumed_laws;
 mod size_laws;
-#[cfg(test)]
-mod tests;
 mod valid_laws;
 
 pub use laws::{codes_mean_their_graphs, codes_mean_their_programs};

@@ -8,8 +8,6 @@
 
 mod flags;
 mod pages;
-#[cfg(test)]
-mod tests;
 
 pub use flags::PageFlags;
 pub use pages::Pages;

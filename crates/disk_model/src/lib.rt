@@ -16,8 +16,6 @@ mod memory_disk;
 mod memory_file;
 mod memory_files;
 mod memory_log;
-#[cfg(test)]
-mod tests;
 
 pub use disk::Disk;
 pub use disk_file::DiskFile;

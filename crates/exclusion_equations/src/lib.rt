@@ -17,5 +17,3 @@ pub use classes::Classes;
 pub use exclusions::{Exclusions, find_exclusions};
 pub use laws::same_graphs_have_the_same_sets;
 
-#[cfg(test)]
-mod tests;

@@ -52,6 +52,3 @@ pub mod Touching
 pub mod EffectLaws
 -- rising runs that have one cell together
 pub mod OneCell
--- for tests alone
-pub mod TestFolds
-pub mod TestSquaresLaws

@@ -28,5 +28,3 @@ pub mod RunWalks
 pub mod Spared
 -- the cells of effects, as sets
 pub mod EffectCells
--- the tree of a small program, for tests alone
-pub mod TestSquares

@@ -17,10 +17,6 @@ mod laws;
 mod main_effects;
 mod node;
 mod node_effects;
-#[cfg(test)]
-mod test_trees;
-#[cfg(test)]
-mod tests;
 mod touched;
 mod works;
 

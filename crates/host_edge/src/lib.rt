@@ -15,8 +15,6 @@ mod file_shelf;
 mod std_sink;
 mod store_dir;
 mod store_file;
-#[cfg(test)]
-mod tests;
 
 pub use dir_disk::DirDisk;
 pub use file_shelf::FileShelf;

@@ -18,8 +18,6 @@ pub mod ReplaceLaws
 pub mod KeptLaws
 -- looking at the files of a store
 pub mod LookLaws
--- a disk in memory that is empty has no chain
-pub mod TestLaws
 -- the records of a file, one after another
 pub mod WalkLaws
 -- the chain that is opened

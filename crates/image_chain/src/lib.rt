@@ -19,8 +19,6 @@ mod record;
 mod replace;
 mod room;
 mod start;
-#[cfg(test)]
-mod tests;
 
 pub use chain::{Chain, Step};
 pub use fault::ChainFault;

@@ -13,8 +13,6 @@ ghost use Rattle.image_format.specs.Spelling.{spelling};
 mod fields;
 mod header;
 mod read;
-#[cfg(test)]
-mod tests;
 mod view;
 mod words;
 mod write;

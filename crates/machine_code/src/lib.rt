@@ -13,8 +13,6 @@ mod event;
 mod instr;
 mod laws;
 mod lines;
-#[cfg(test)]
-mod tests;
 mod valid;
 
 pub use code::Code;

@@ -11,7 +11,5 @@
 #![tactic(auto)]
 
 mod output;
-#[cfg(test)]
-mod tests;
 
 pub use output::Output;

@@ -1,7 +1,6 @@
 pub mod Checkpoints
 pub mod Homes
 pub mod Memory
-pub mod Moved
 pub mod Rank
 pub mod ToGo
 pub mod RunOnLaws

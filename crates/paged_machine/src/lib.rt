@@ -14,8 +14,6 @@ mod machine;
 mod pointer;
 mod stack;
 mod steps;
-#[cfg(test)]
-mod tests;
 
 pub use laws::{answers_stop_runs, served_stores_come_first};
 pub use machine::Machine;

@@ -17,5 +17,3 @@ mod whole;
 pub use graph::{EffectGraph, Mark};
 pub use solver::reaching;
 
-#[cfg(test)]
-mod tests;

@@ -9,8 +9,6 @@ mod fault;
 mod fit;
 mod restore;
 mod shape;
-#[cfg(test)]
-mod tests;
 
 pub use fault::RecoverFault;
 pub use restore::recover;

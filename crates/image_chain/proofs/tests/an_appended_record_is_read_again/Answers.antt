@@ -1,6 +1,0 @@
-use Rattle.std.proofs.Common.{◌∙◌, ap, ℕ, List}
-use Rattle.disk_model.specs.MemoryDisk.{empty_disk}
-use Rattle.image_chain.proofs.tests.an_appended_record_is_read_again.Goals as goal
-
-pub begun-requires : goal.begun-requires
-begun-requires g c = record { empty = c.in_ok-disk.ensures.answer ∙ ap (λ (failing : List ℕ). empty_disk 64 4096 0 failing) c.new-2.ensures.items }

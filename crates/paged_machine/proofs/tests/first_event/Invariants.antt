@@ -1,9 +1,0 @@
-use Rattle.paged_machine.specs.Standing.{StandsIn}
-use Rattle.paged_machine.specs.Fitting.{FitTogether}
-use Rattle.paged_machine.proofs.tests.first_event.Given as goal
-
-abbrev pub invariant-loop : goal.invariant-loop
-invariant-loop g l = record {
-  stands : StandsIn l.code l.machine;
-  fit : FitTogether l.code l.frames l.pages;
-}
