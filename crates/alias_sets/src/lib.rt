@@ -13,4 +13,3 @@ mod statements;
 
 pub use flows::{PointerVar, Source};
 pub use points::{Points, find_points};
-

@@ -30,4 +30,3 @@ mod words;
 pub use fault::ReadFault;
 pub use laws::texts_spell_one_program;
 pub use reader::read;
-

@@ -22,4 +22,3 @@ pub use cell_set::CellSet;
 pub use cell_test::CellTest;
 pub use run_list::{RUN_LIST_ROOM, RunList};
 pub use runs::Run;
-

@@ -16,4 +16,3 @@ mod signature;
 pub use classes::Classes;
 pub use exclusions::{Exclusions, find_exclusions};
 pub use laws::same_graphs_have_the_same_sets;
-

@@ -11,7 +11,6 @@ ghost use Rattle.page_frames.specs.Words.{eight, fill_word, words_of};
 ghost use Rattle.page_frames.specs.Frame.{HasPage, page_words, frame_bytes, SameElsewhere};
 ghost use borrow.Rule.Slice.PartMut.{put_mid};
 
-
 use ckpt_base::NoMemory;
 use std::alloc::Global;
 use std::marker::Model;

@@ -16,4 +16,3 @@ mod whole;
 
 pub use graph::{EffectGraph, Mark};
 pub use solver::reaching;
-
