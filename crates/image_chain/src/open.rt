@@ -242,6 +242,7 @@ fn read_store<D: Disk>(
     kept: &mut Kept,
 ) -> Result<Option<Chain>, ChainFault>
     requires none { (c : ℕ) → kept_word kept.old c ≡ None }
+    ensures empty { IfOk result (λ found. found ≡ None → (c : ℕ) → kept_word kept.new c ≡ None) }
     ensures rest { IfOk result (λ found. IfSome found (λ chain. chain.due ≡ Step.Piece 0)) }
     ensures some { IfOk result (λ found. IfSome found (λ chain. 1 ≤ chain.current.count)) }
     ensures answer { IfOk result (λ found. IsTrue (D.view disk.old).tells → (rs : List Image) × (chain_in (D.view disk.old).seen ≡ Ok (opened_as found rs)) × IsFound found kept.new rs (D.view disk.old).seen) }
@@ -264,13 +265,14 @@ impl Chain {
     /// Opens the chain of a store: makes both image files lasting, reads the headers and the current file's records, and keeps their joined
     /// content. `None` comes where no file is current and nothing is damaged; `Damaged` exactly with the damage that the store has.
     ///
-    /// `kept` lists nothing before, and is of no use after a fault. The contents of the disk stay.
+    /// `kept` lists nothing before, nor after `None`, and is of no use after a fault. The contents of the disk stay.
     pub fn open<D: Disk>(
         disk: &mut D,
         room: &mut ChainRoom,
         kept: &mut Kept,
     ) -> Result<Option<Chain>, ChainFault>
         requires none { (c : ℕ) → kept_word kept.old c ≡ None }
+        ensures empty { IfOk result (λ found. found ≡ None → (c : ℕ) → kept_word kept.new c ≡ None) }
         ensures rest { IfOk result (λ found. IfSome found (λ chain. chain.due ≡ Step.Piece 0)) }
         ensures some { IfOk result (λ found. IfSome found (λ chain. 1 ≤ chain.current.count)) }
         ensures answer { IfOk result (λ found. IsTrue (D.view disk.old).tells → (rs : List Image) × (chain_in (D.view disk.old).seen ≡ Ok (opened_as found rs)) × IsOpened found kept.new rs (D.view disk.new)) }
