@@ -1,0 +1,4 @@
+use Rattle.public_calls_compiler.proofs.machine.event_of.Given as goal
+
+abbrev pub ghosts-first_of : goal.ghosts-first_of
+ghosts-first_of a = record { name = a.blank.name; parts = a.blank.parts }

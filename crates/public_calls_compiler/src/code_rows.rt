@@ -1,0 +1,323 @@
+//! Codes, each with a rule that it keeps or breaks.
+
+use machine_code::Instr;
+
+/// The parts of a code, whether it is valid, and the rule that it shows.
+#[derive(Clone, Copy)]
+pub struct CodeRow<'a> {
+    pub instrs: &'a [Instr],
+    /// The start, the parameters and the locals of each function.
+    pub functions: &'a [(u32, u32, u32)],
+    /// The first cell and the length of each object.
+    pub objects: &'a [(u32, u32)],
+    /// The node of each checkpoint, and the place after it.
+    pub checkpoints: &'a [(u32, u32)],
+    pub stack: u32,
+    pub is_valid: bool,
+    pub rule: &'a str,
+}
+
+/// Operands and jumps, in codes of `main` alone.
+pub const PLACES_IN_MAIN: [CodeRow<'static>; 8] = [
+    CodeRow {
+        instrs: &[],
+        functions: &[],
+        objects: &[],
+        checkpoints: &[],
+        stack: 1,
+        is_valid: false,
+        rule: "it has an instruction",
+    },
+    CodeRow {
+        instrs: &[Instr::Ret],
+        functions: &[],
+        objects: &[],
+        checkpoints: &[],
+        stack: 1,
+        is_valid: false,
+        rule: "the depth is enough",
+    },
+    CodeRow {
+        instrs: &[Instr::Num(1), Instr::Ret],
+        functions: &[],
+        objects: &[],
+        checkpoints: &[],
+        stack: 0,
+        is_valid: false,
+        rule: "the depth is at most the stack",
+    },
+    CodeRow {
+        instrs: &[Instr::Num(1)],
+        functions: &[],
+        objects: &[],
+        checkpoints: &[],
+        stack: 1,
+        is_valid: false,
+        rule: "none runs past the end",
+    },
+    CodeRow {
+        instrs: &[Instr::Num(1), Instr::Tick, Instr::Ret],
+        functions: &[],
+        objects: &[],
+        checkpoints: &[],
+        stack: 1,
+        is_valid: false,
+        rule: "no operands at a tick",
+    },
+    CodeRow {
+        instrs: &[Instr::Tick, Instr::Jump(0)],
+        functions: &[],
+        objects: &[],
+        checkpoints: &[],
+        stack: 1,
+        is_valid: true,
+        rule: "a backward jump to a tick",
+    },
+    CodeRow {
+        instrs: &[Instr::Jump(0)],
+        functions: &[],
+        objects: &[],
+        checkpoints: &[],
+        stack: 1,
+        is_valid: false,
+        rule: "a backward jump to no tick",
+    },
+    CodeRow {
+        instrs: &[
+            Instr::Num(1),
+            Instr::JumpZ(3),
+            Instr::Num(1),
+            Instr::Num(2),
+            Instr::Ret,
+        ],
+        functions: &[],
+        objects: &[],
+        checkpoints: &[],
+        stack: 2,
+        is_valid: false,
+        rule: "one depth at each place",
+    },
+];
+
+/// What an instruction names, in codes of `main` alone.
+pub const NAMES_IN_MAIN: [CodeRow<'static>; 5] = [
+    CodeRow {
+        instrs: &[Instr::LoadL(0), Instr::Ret],
+        functions: &[],
+        objects: &[],
+        checkpoints: &[],
+        stack: 1,
+        is_valid: false,
+        rule: "main has no locals",
+    },
+    CodeRow {
+        instrs: &[Instr::Addr(0), Instr::Ret],
+        functions: &[],
+        objects: &[],
+        checkpoints: &[],
+        stack: 1,
+        is_valid: false,
+        rule: "the object exists",
+    },
+    CodeRow {
+        instrs: &[Instr::Call(0), Instr::Ret],
+        functions: &[],
+        objects: &[],
+        checkpoints: &[],
+        stack: 1,
+        is_valid: false,
+        rule: "the function exists",
+    },
+    CodeRow {
+        instrs: &[Instr::Ckpt(0), Instr::Num(1), Instr::Ret],
+        functions: &[],
+        objects: &[],
+        checkpoints: &[],
+        stack: 1,
+        is_valid: false,
+        rule: "the table has the checkpoint",
+    },
+    CodeRow {
+        instrs: &[Instr::Excl(1), Instr::Num(1), Instr::Ret],
+        functions: &[],
+        objects: &[],
+        checkpoints: &[],
+        stack: 1,
+        is_valid: true,
+        rule: "a directive in main",
+    },
+];
+
+/// `main` and one function.
+pub const RULES_OF_FUNCTIONS: [CodeRow<'static>; 7] = [
+    CodeRow {
+        instrs: &[
+            Instr::Num(1),
+            Instr::Call(0),
+            Instr::Ret,
+            Instr::LoadL(0),
+            Instr::Ret,
+        ],
+        functions: &[(3, 1, 1)],
+        objects: &[(0, 4)],
+        checkpoints: &[],
+        stack: 2,
+        is_valid: true,
+        rule: "a function with a parameter",
+    },
+    CodeRow {
+        instrs: &[
+            Instr::Num(1),
+            Instr::Call(0),
+            Instr::Ret,
+            Instr::LoadL(0),
+            Instr::Ret,
+        ],
+        functions: &[(0, 1, 1)],
+        objects: &[(0, 4)],
+        checkpoints: &[],
+        stack: 2,
+        is_valid: false,
+        rule: "a start is above 0",
+    },
+    CodeRow {
+        instrs: &[
+            Instr::Num(1),
+            Instr::Call(0),
+            Instr::Ret,
+            Instr::LoadL(0),
+            Instr::Ret,
+        ],
+        functions: &[(9, 1, 1)],
+        objects: &[(0, 4)],
+        checkpoints: &[],
+        stack: 2,
+        is_valid: false,
+        rule: "a start names an instruction",
+    },
+    CodeRow {
+        instrs: &[
+            Instr::Num(1),
+            Instr::Call(0),
+            Instr::Ret,
+            Instr::LoadL(0),
+            Instr::Ret,
+        ],
+        functions: &[(3, 1, 0)],
+        objects: &[(0, 4)],
+        checkpoints: &[],
+        stack: 2,
+        is_valid: false,
+        rule: "parameters are locals",
+    },
+    CodeRow {
+        instrs: &[
+            Instr::Num(1),
+            Instr::Call(0),
+            Instr::Ret,
+            Instr::LoadL(0),
+            Instr::Ret,
+        ],
+        functions: &[(4, 1, 1)],
+        objects: &[(0, 4)],
+        checkpoints: &[],
+        stack: 2,
+        is_valid: false,
+        rule: "no operands at a start",
+    },
+    CodeRow {
+        instrs: &[
+            Instr::Num(1),
+            Instr::JumpZ(3),
+            Instr::Ret,
+            Instr::Num(1),
+            Instr::Ret,
+        ],
+        functions: &[(3, 0, 0)],
+        objects: &[(0, 4)],
+        checkpoints: &[],
+        stack: 2,
+        is_valid: false,
+        rule: "a jump stays in its code",
+    },
+    CodeRow {
+        instrs: &[
+            Instr::Num(1),
+            Instr::Ret,
+            Instr::Ret,
+            Instr::Excl(1),
+            Instr::Num(1),
+            Instr::Ret,
+        ],
+        functions: &[(3, 0, 0)],
+        objects: &[(0, 4)],
+        checkpoints: &[],
+        stack: 2,
+        is_valid: false,
+        rule: "a directive stands in main",
+    },
+];
+
+/// `main`, one function and a table of checkpoints.
+pub const RULES_OF_TABLES: [CodeRow<'static>; 4] = [
+    CodeRow {
+        instrs: &[
+            Instr::Num(1),
+            Instr::Call(0),
+            Instr::Ret,
+            Instr::LoadL(0),
+            Instr::Ret,
+        ],
+        functions: &[(3, 1, 1)],
+        objects: &[(0, 4)],
+        checkpoints: &[(0, 1)],
+        stack: 2,
+        is_valid: false,
+        rule: "no other entry",
+    },
+    CodeRow {
+        instrs: &[
+            Instr::Ckpt(5),
+            Instr::Num(1),
+            Instr::Ret,
+            Instr::Num(1),
+            Instr::Ret,
+        ],
+        functions: &[(3, 0, 0)],
+        objects: &[(0, 4)],
+        checkpoints: &[(5, 1)],
+        stack: 2,
+        is_valid: true,
+        rule: "a checkpoint and its entry",
+    },
+    CodeRow {
+        instrs: &[
+            Instr::Ckpt(5),
+            Instr::Num(1),
+            Instr::Ret,
+            Instr::Num(1),
+            Instr::Ret,
+        ],
+        functions: &[(3, 0, 0)],
+        objects: &[(0, 4)],
+        checkpoints: &[(5, 2)],
+        stack: 2,
+        is_valid: false,
+        rule: "the place after it",
+    },
+    CodeRow {
+        instrs: &[
+            Instr::Ckpt(5),
+            Instr::Num(1),
+            Instr::Ret,
+            Instr::Num(1),
+            Instr::Ret,
+        ],
+        functions: &[(3, 0, 0)],
+        objects: &[(0, 4)],
+        checkpoints: &[(5, 1), (5, 1)],
+        stack: 2,
+        is_valid: false,
+        rule: "one entry for a node",
+    },
+];

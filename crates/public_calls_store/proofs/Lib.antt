@@ -1,0 +1,2 @@
+-- a disk in memory that is empty has no chain
+mod EmptyStore
