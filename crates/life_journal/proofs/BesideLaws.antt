@@ -1,8 +1,8 @@
 -- A chain at rest beside calls on the output, and an output beside calls on the chain.
-use Rattle.std.proofs.Common.{◌≡◌, ◌≢◌, refl, sym, ◌∙◌, ap, subst, ℕ, ◌++◌, List, length, IsTrue}
+use Rattle.std.proofs.Common.{◌≢◌, refl, sym, ◌∙◌, ap, subst, ℕ, ◌++◌, List, length, IsTrue}
 use Rattle.disk_model.specs.declared.disk_file.DiskFile.{DiskFile}
 use Rattle.disk_model.specs.declared.disk_file.DiskFile.TheVariants.{Output, One, Two}
-use Rattle.disk_model.specs.Store.{Store, file_of}
+use Rattle.disk_model.specs.Store.{Store}
 use Rattle.disk_model.specs.View.{View, IsDisk, SameFile}
 use Rattle.disk_model.specs.Moments.{Among, LeavesOnly}
 use Rattle.disk_model.proofs.Calls.{still, joined}
@@ -22,7 +22,7 @@ one_not e = cc
 two_not : Two ≢ Output
 two_not e = cc
 
-other_not : (f : DiskFile) → f ≢ Output → other f ≢ Output
+pub other_not : (f : DiskFile) → f ≢ Output → other f ≢ Output
 other_not Output not = absurd (not refl)
 other_not One not = two_not
 other_not Two not = one_not

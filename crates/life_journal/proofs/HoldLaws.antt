@@ -1,5 +1,5 @@
 -- What a journal holds goes on from call to call.
-use Rattle.std.proofs.Common.{◌≡◌, ◌<◌, ◌≤◌, ◌+◌, refl, sym, ◌∙◌, ap, subst, inl, inr, ℕ, List, [], ◌∷◌, ◌++◌, IsTrue, Option, Some, None, Ok, append-nil, arith}
+use Rattle.std.proofs.Common.{◌≡◌, ◌<◌, ◌≤◌, refl, sym, ◌∙◌, ap, subst, inl, inr, ℕ, List, [], ◌∷◌, ◌++◌, IsTrue, Option, None, Ok, arith}
 use Rattle.std.specs.Option.{option_or}
 use Rattle.disk_model.specs.declared.disk_file.DiskFile.TheVariants.{Output, One, Two}
 use Rattle.disk_model.specs.Store.{Store}
@@ -9,11 +9,10 @@ use Rattle.disk_model.proofs.Calls.{still, joined, weaken}
 use Rattle.image_format.specs.Image.{Image, word_in_runs}
 use Rattle.image_chain.specs.ChainView.{ChainView}
 use Rattle.image_chain.specs.declared.chain.Current.{Current}
-use Rattle.image_chain.specs.Append.{header_of, other, TakesOver, Spells}
 use Rattle.image_chain.specs.Lists.{Rests, HasNone}
-use Rattle.image_chain.specs.Memory.{Joined, memory, kept_word}
+use Rattle.image_chain.specs.Memory.{Joined, kept_word}
 use Rattle.image_chain.specs.Records.{chain_in}
-use Rattle.image_chain.specs.Replace.{StandsOnOther, next_header, IsReplaced}
+use Rattle.image_chain.specs.Replace.{StandsOnOther, IsReplaced}
 use Rattle.image_chain.proofs.KeptLaws.{memory_push}
 use Rattle.image_chain.proofs.OpenLaws.{none_stays}
 use Rattle.image_format.specs.declared.header.Header.{Header}

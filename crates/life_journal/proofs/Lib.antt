@@ -4,3 +4,5 @@ pub mod BesideLaws
 pub mod PushLaws
 -- what a journal holds goes on from call to call
 pub mod HoldLaws
+-- a journal that goes on behind an output that is cut
+pub mod ResumeLaws

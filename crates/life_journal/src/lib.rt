@@ -10,5 +10,6 @@ mod bytes;
 mod joining;
 mod journal;
 mod record;
+mod resume;
 
 pub use journal::{Journal, JournalRooms};

@@ -1,4 +1,4 @@
-use Rattle.std.proofs.Common.{refl, sym, subst, [], IsTrue}
+use Rattle.std.proofs.Common.{refl, sym, subst, IsTrue}
 use Rattle.life_journal.proofs.HoldLaws.{none_behind, none_started, none_left, begun_holds}
 use Rattle.life_journal.proofs.journal.Journal.begin.Goals as goal
 

@@ -1,4 +1,4 @@
-use Rattle.std.proofs.Common.{◌≡◌, ◌∙◌, refl, sym, ap, subst, ℕ, List, [], ◌∷◌, IsTrue}
+use Rattle.std.proofs.Common.{◌∙◌, refl, sym, ap, subst, ℕ, List, IsTrue}
 use Rattle.disk_model.specs.Moments.{Among, LeavesOnly}
 use Rattle.image_format.specs.Image.{Image}
 use Rattle.image_format.specs.Written.{image_of}
