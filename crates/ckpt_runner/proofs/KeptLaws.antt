@@ -1,5 +1,5 @@
 -- What a life keeps on its disk, between two calls of its writer.
-use Rattle.std.proofs.Common.{◌≡◌, refl, sym, ◌∙◌, ap, subst, ℕ, ◌+◌, ◌/◌, Bool, true, false, cond, ◌&&◌, List, [], ◌∷◌, ◌++◌, map, append_assoc, append-nil, Option, Some, None, ⊎_elim}
+use Rattle.std.proofs.Common.{◌≡◌, refl, sym, ◌∙◌, ap, subst, ℕ, ◌+◌, Bool, true, false, cond, List, [], ◌∷◌, ◌++◌, map, append_assoc, append-nil, Some, None, ⊎_elim}
 use Rattle.std.specs.Prelude.{is_some, slice_index}
 use Rattle.std.specs.List.{AllByRecursion}
 use Rattle.ckpt_base.specs.Event.{Event, Wrote, Byte, Took, Excluded, Checkpoint}
@@ -11,21 +11,18 @@ use Rattle.disk_model.specs.View.{View}
 use Rattle.image_format.specs.declared.fields.Fields.{Fields}
 use Rattle.image_format.specs.Image.{Image, word_in_runs}
 use Rattle.image_format.specs.Written.{image_of, filled, listed_word}
-use Rattle.image_chain.specs.Lists.{Rests}
-use Rattle.coalesce.specs.Join.{IsContent}
-use Rattle.output_file.specs.OnDisk.{IsOutputOn}
 use Rattle.life_journal.specs.JournalView.{JournalView}
 use Rattle.life_journal.specs.Holding.{HoldsJournal}
 use Rattle.life_journal.specs.Joining.{StayOrJoin}
-use Rattle.run_images.specs.Since.{Since, is_due, since_after}
+use Rattle.run_images.specs.Since.{Since, is_due}
 use Rattle.run_images.specs.Images.{Taking, TakenImage, fields_at, taken_at, images_from, lists_at}
-use Rattle.run_images.specs.JoinedList.{lists_cell, IsOf, IsJoinedList}
+use Rattle.run_images.specs.JoinedList.{IsOf, IsJoinedList}
 use Rattle.run_images.specs.Origin.{Origin}
 use Rattle.run_images.proofs.ImageLaws.{images_more, taken_due}
 use Rattle.run_images.proofs.JoinLaws.{joined_grow, joined_joins}
 use Rattle.ckpt_runner.specs.LifeView.{LifeView, Writer, Idle}
 use Rattle.ckpt_runner.specs.Lives.{since_now}
-use Rattle.ckpt_runner.specs.Keeps.{bytes_now, images_now, NoneSnapped, WriterStands, Keeps, Kept}
+use Rattle.ckpt_runner.specs.Keeps.{bytes_now, images_now, NoneSnapped, WriterStands, Kept}
 use Rattle.ckpt_runner.proofs.ServedLaws.{IsOpenStore}
 
 -- what is kept while no image is under way

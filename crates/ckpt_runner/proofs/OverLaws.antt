@@ -1,10 +1,10 @@
 -- Runs of instructions whose write faults are served.
-use Rattle.std.proofs.Common.{◌≡◌, ◌≢◌, refl, sym, ◌∙◌, ap, subst, ℕ, zero, suc, ◌+◌, ◌/◌, ◌<◌, ◌≤◌, ◌==◌, ◌||◌, Bool, true, false, not, List, [], ◌∷◌, ◌++◌, length, get_or, set, append_assoc, append-nil, Option, Some, None, ◌⊎◌, ⊎_elim, inl, inr, max, arith, length-set, get_or-set_same, get_or-set_other}
+use Rattle.std.proofs.Common.{◌≡◌, ◌≢◌, refl, sym, ◌∙◌, ap, subst, ℕ, zero, suc, ◌+◌, ◌/◌, ◌<◌, ◌==◌, ◌||◌, Bool, true, false, not, List, [], ◌∷◌, ◌++◌, length, get_or, set, append_assoc, append-nil, Option, Some, None, ◌⊎◌, ⊎_elim, inl, inr, arith, length-set, get_or-set_same, get_or-set_other}
 use Rattle.std.specs.Prelude.{slice_get}
-use Rattle.std.specs.List.{All, AllByRecursion, list_any}
+use Rattle.std.specs.List.{AllByRecursion, list_any}
 use Rattle.std.proofs.lemmas.Bool.Decides.{nat_tests}
 use Rattle.std.proofs.lemmas.List.Elements.{recursion_from_All}
-use Rattle.ckpt_base.specs.Event.{Event, Wrote}
+use Rattle.ckpt_base.specs.Event.{Event}
 use Rattle.dirty_pages.specs.Pages.{PageStates, is_dirty, is_protected, served}
 use Rattle.machine_code.specs.declared.event.Event as machine
 use Rattle.machine_code.specs.declared.event.Event.TheVariants.{WriteFault, Ran, Ticked, Out, OutNumber, WantsInput, Checkpoint, Exclude, Ended, Trapped}
@@ -12,10 +12,10 @@ use Rattle.machine_code.specs.declared.instr.Instr.TheVariants.{Tick}
 use Rattle.machine_code.specs.CodeView.{CodeView}
 use Rattle.machine_code.specs.State.{State}
 use Rattle.machine_code.specs.Memory.{FitsMemory}
-use Rattle.machine_code.specs.Run.{World, world, after}
+use Rattle.machine_code.specs.Run.{world, after}
 use Rattle.machine_code.proofs.RunLaws.{after_both}
 use Rattle.paged_machine.specs.Fitting.{FitTogether}
-use Rattle.paged_machine.specs.Rest.{Shrinks, rest}
+use Rattle.paged_machine.specs.Rest.{Shrinks}
 use Rattle.paged_machine.specs.RunOn.{Answers, GoesOn, WouldWrite, told_by}
 use Rattle.paged_machine.proofs.StopLaws.{is_done, comes_first}
 use Rattle.ckpt_runner.specs.RunsOver.{IsStore, writes_page, RunsOver}
@@ -172,3 +172,31 @@ pub over_on : (c : CodeView) (s t u : State) (m n k : List ℕ) (old mid new : P
 over_on c s t u m n k old mid new p answer is r w g told none =
     subst (λ (x : PageStates). RunsOver c s m old answer u k x) (sym is)
     (over_then c s t u m n k old mid p answer r w (subst (λ (x : PageStates). GoesOn c (is_protected x) t n answer u k) is g) (subst (λ (x : PageStates). Answers c x u k answer) is told) none)
+
+-- ---- a run, whatever it goes on with
+
+-- however the run goes on from there, it is one from the first standing on
+abbrev pub GoesOver : CodeView → State → List ℕ → PageStates → State → List ℕ → PageStates → Type 0
+GoesOver c s m old t n new =
+    (answer : Option machine.Event) (u : State) (k : List ℕ) → GoesOn c (is_protected new) t n answer u k → Answers c new u k answer → (answer ≡ None → slice_get c.instrs u.place ≡ Some Tick) → RunsOver c s m old answer u k new
+
+-- however it goes on, the rest shrinks as if it went on from the first standing
+abbrev pub ShrinksOver : CodeView → ℕ → State → State → Type 0
+ShrinksOver c until s t = (answer : Option machine.Event) (u : State) → Shrinks c until t answer u → Shrinks c until s answer u
+
+pub goes_first : (c : CodeView) (s : State) (m : List ℕ) (pages : PageStates) → GoesOver c s m pages s m pages
+goes_first c s m pages = λ answer u k g told none. over_first c s u m k pages answer g
+
+-- behind a fault that was served
+pub goes_then : (c : CodeView) (s t u : State) (m n k : List ℕ) (old mid new : PageStates) (p : ℕ) (answer : Option machine.Event) → answer ≡ Some (WriteFault p) → new ≡ served mid p → GoesOver c s m old t n mid
+    → GoesOn c (is_protected mid) t n answer u k → Answers c mid u k answer → GoesOver c s m old u k new
+goes_then c s t u m n k old mid new p answer fault is over g told =
+    let w : WouldWrite c mid u k p = subst (Answers c mid u k) fault told in
+    let r : RunsOver c s m old (Some (WriteFault p)) u k mid =
+    over (Some (WriteFault p)) u k (subst (λ (a : Option machine.Event). GoesOn c (is_protected mid) t n a u k) fault g) w (λ e. absurd (let z : Some (WriteFault p) ≡ None = e in cc)) in
+    λ next v l h shown none. over_on c s u v m k l old mid new p next is r w h shown none
+
+pub shrinks_over : (c : CodeView) (until p : ℕ) (s t u : State) (answer : Option machine.Event) → answer ≡ Some (WriteFault p) → ShrinksOver c until s t → Shrinks c until t answer u → ShrinksOver c until s u
+shrinks_over c until p s t u answer fault over less =
+    let here : Shrinks c until s (Some (WriteFault p)) u = over (Some (WriteFault p)) u (subst (λ (a : Option machine.Event). Shrinks c until t a u) fault less) in
+    λ next v h. shrinks_then c until p s u v next here h

@@ -1,8 +1,8 @@
 -- A life goes on with a run of instructions whose write faults are served.
-use Rattle.std.proofs.Common.{◌≡◌, refl, sym, ◌∙◌, ap, subst, ℕ, ◌+◌, ◌/◌, ◌≤◌, ◌<◌, ◌==◌, ◌||◌, Bool, true, false, List, [], ◌∷◌, ◌++◌, length, take, drop, append_assoc, append-nil, Option}
+use Rattle.std.proofs.Common.{◌≡◌, refl, sym, ◌∙◌, ap, subst, ℕ, ◌/◌, ◌≤◌, ◌<◌, ◌==◌, ◌||◌, Bool, true, false, List, [], ◌∷◌, ◌++◌, length, take, drop, append_assoc, append-nil, Option}
 use Rattle.std.specs.List.{AllByRecursion, list_any}
 use Rattle.ckpt_base.specs.Event.{Event}
-use Rattle.dirty_pages.specs.Pages.{PageStates, is_dirty}
+use Rattle.dirty_pages.specs.Pages.{PageStates}
 use Rattle.machine_code.specs.declared.event.Event as machine
 use Rattle.machine_code.specs.CodeView.{CodeView}
 use Rattle.machine_code.specs.State.{State}

@@ -1,17 +1,17 @@
 -- A life goes on with its run.
-use Rattle.std.proofs.Common.{◌≡◌, refl, sym, ◌∙◌, ap, subst, ℕ, ◌+◌, ◌/◌, ◌≤◌, ◌<◌, ◌==◌, ◌||◌, Bool, true, false, not, List, [], ◌∷◌, ◌++◌, length, take, drop, map, append_assoc, append-nil, Option, Some, None, arith}
+use Rattle.std.proofs.Common.{◌≡◌, refl, sym, ◌∙◌, ap, subst, ℕ, ◌+◌, ◌/◌, ◌≤◌, ◌<◌, ◌==◌, ◌||◌, Bool, true, false, not, List, [], ◌∷◌, ◌++◌, length, take, drop, map, append_assoc, append-nil, arith}
 use Rattle.std.specs.List.{All, AllByRecursion, list_any}
 use Rattle.std.proofs.lemmas.Bool.Decides.{nat_tests}
-use Rattle.std.proofs.lemmas.List.{take-append-drop, length-take-le, take-append-le}
+use Rattle.std.proofs.lemmas.List.{take-append-drop, length-take-le}
 use Rattle.std.proofs.Math.Seq.{take-append_seam}
 use Rattle.std.proofs.lemmas.List.Elements.{recursion_from_All}
-use Rattle.ckpt_base.specs.Event.{Event, Wrote, Byte, Took, Excluded, Checkpoint}
+use Rattle.ckpt_base.specs.Event.{Event, Wrote, Byte}
 use Rattle.dirty_pages.specs.Pages.{PageStates, is_dirty, is_protected}
 use Rattle.machine_code.specs.CodeView.{CodeView}
 use Rattle.machine_code.specs.State.{State}
 use Rattle.machine_code.specs.Memory.{FitsMemory}
 use Rattle.machine_code.specs.Run.{World, world, after, Reaches}
-use Rattle.machine_code.specs.Shown.{Shows, longer}
+use Rattle.machine_code.specs.Shown.{longer}
 use Rattle.machine_code.proofs.LongerLaws.{after_longer}
 use Rattle.machine_code.proofs.PassLaws.{reaches_shows}
 use Rattle.machine_code.proofs.RunLaws.{reaches_on}
@@ -21,9 +21,8 @@ use Rattle.run_images.specs.Images.{Taking}
 use Rattle.run_images.specs.Compiled.{CompiledView, cells_in}
 use Rattle.run_images.specs.Origin.{Origin, origin_world, taking_by}
 use Rattle.run_images.proofs.ImageLaws.{since_more}
-use Rattle.ckpt_runner.specs.declared.progress.Progress.{Progress}
 use Rattle.ckpt_runner.specs.LifeView.{LifeView}
-use Rattle.ckpt_runner.specs.Lives.{since_now, progress_in, cells_now, world_now, HasServed, Lives}
+use Rattle.ckpt_runner.specs.Lives.{since_now, progress_in, world_now, HasServed, Lives}
 
 -- ---- stores into pages that are not protected
 
@@ -66,7 +65,7 @@ stores_fresh every pages (e ∷ es) s page h dirty =
 
 -- ---- the cells of the program, at the front of all pages
 
-same_world : (v : World) (t : State) (m input : List ℕ) (events : List Event) → v.state ≡ t → v.memory ≡ m → v.input ≡ input → v.events ≡ events → v ≡ world t m input events
+pub same_world : (v : World) (t : State) (m input : List ℕ) (events : List Event) → v.state ≡ t → v.memory ≡ m → v.input ≡ input → v.events ≡ events → v ≡ world t m input events
 same_world v t m input events a b c d =
     ap (λ (x : State). world x v.memory v.input v.events) a ∙ ap (λ (x : List ℕ). world t x v.input v.events) b ∙ ap (λ (x : List ℕ). world t m x v.events) c ∙ ap (λ (x : List Event). world t m input x) d
 

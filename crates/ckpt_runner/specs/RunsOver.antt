@@ -1,5 +1,5 @@
 -- What a run of instructions over frames and pages comes to, where each write fault is served.
-use Rattle.std.specs.Prelude.{◌≡◌, ℕ, ◌+◌, ◌/◌, ◌<◌, Bool, false, ◌==◌, ◌||◌, List, ◌++◌, length, Option}
+use Rattle.std.specs.Prelude.{◌≡◌, ℕ, ◌/◌, ◌<◌, Bool, false, ◌==◌, ◌||◌, List, ◌++◌, length, Option}
 use Rattle.std.specs.List.{AllByRecursion, list_any}
 use Rattle.ckpt_base.specs.Event.{Event, Wrote, Byte, Took, Excluded, Checkpoint}
 use Rattle.dirty_pages.specs.Pages.{PageStates, is_dirty}
