@@ -9,7 +9,7 @@ use Rattle.c_tree.specs.declared.resolved.Resolved.{Resolved}
 use Rattle.c_tree.specs.Meaning.{meaning}
 use Rattle.c_types.specs.Check.{checked}
 use Rattle.command_words.specs.declared.command.Command.{Command}
-use Rattle.command_words.specs.declared.command.Command.TheVariants.{Plain, Check, Compile, Report}
+use Rattle.command_words.specs.declared.command.Command.TheVariants.{Plain, Check, Compile, Report, Run, Images}
 use Rattle.ckpt_program.specs.declared.done.Counts.{Counts}
 use Rattle.ckpt_program.specs.declared.done.Done.{Done}
 use Rattle.ckpt_program.specs.declared.done.Done.TheVariants as done
@@ -19,7 +19,12 @@ use Rattle.ckpt_program.specs.declared.stop.Cause.{Cause}
 use Rattle.ckpt_program.specs.declared.stop.Cause.TheVariants as cause
 use Rattle.ckpt_program.specs.declared.stop.Stop.{Stop}
 use Rattle.ckpt_program.specs.declared.stop.Stop.TheVariants.{NoMemory, Because}
+use Rattle.disk_model.specs.Plate.{Plate}
+use Rattle.image_chain.specs.Records.{Found, chain_in}
+use Rattle.chain_listing.specs.Store.{Lists, chain_text}
 use Rattle.ckpt_program.specs.Sight.{sight}
+use Rattle.ckpt_program.specs.DiskStages.{FailsEntry, FailsListing, IsListed}
+use Rattle.ckpt_program.specs.Rows as row
 use Rattle.ckpt_program.specs.Fetched.{limit_of, IsWhole}
 use Rattle.ckpt_program.specs.Stage.{◌>>=◌, only, Comes}
 use Rattle.ckpt_program.specs.Accepted.{Spelled, Accepted, IsAccepted}
@@ -27,10 +32,10 @@ use Rattle.ckpt_program.specs.Stages.{FailsFile, File, HasSource, FailsSource, S
 use Rattle.ckpt_program.specs.Listed.{IsListing}
 use Rattle.ckpt_program.specs.Report.{IsReport}
 use Rattle.ckpt_program.specs.Rows.{IsCounted, Counted, Evaluated, Printed}
-use Rattle.ckpt_program.specs.Carries.{word_at, CarriesSome}
-use Rattle.ckpt_program.specs.Texts.{counts_line, run_text, ending_status, done_text, done_status, text_of, status_of}
+use Rattle.ckpt_program.specs.Carries.{word_at, NoCommand, CarriesSome}
+use Rattle.ckpt_program.specs.Texts.{usage_line, counts_line, run_text, ending_status, done_text, done_status, text_of, status_of}
 use Rattle.ckpt_program.specs.Told.{Tells}
-use Rattle.ckpt_program.specs.Top.{HasFile, HasProgram, Job, Says, Complete}
+use Rattle.ckpt_program.specs.Top.{HasFile, HasProgram, HasChain, Job, Says, Complete}
 
 -- ---- texts
 
@@ -67,6 +72,8 @@ file_not_failing d name v w (cause.TooLarge e) bytes tells calm has fails =
 file_not_failing d name v w cause.Usage bytes tells calm has fails = absurd fails
 file_not_failing d name v w (cause.Refused r) bytes tells calm has fails = absurd fails
 file_not_failing d name v w cause.DiskFault bytes tells calm has fails = absurd fails
+file_not_failing d name v w (cause.Damaged file place) bytes tells calm has fails = absurd fails
+file_not_failing d name v w (cause.Occupied image step) bytes tells calm has fails = absurd fails
 
 -- ---- sources
 
@@ -106,6 +113,47 @@ with_both Q source input v w job (Err (Because c)) tells calm has given came =
     ⊎_elim (λ fails. absurd (source_not_failing source v w c job.tree tells calm has fails)) (λ found.
     ⊎_elim (λ fails. absurd (file_not_failing document.Input input v w c job.input tells calm given fails)) (λ read. absurd read.2) found.2) came
 
+-- the disk did not fail, and the store is not damaged
+entry_not_failing : (disk disk_new : Plate) (chain : Option Found) (c : Cause) → HasChain disk disk_new chain → FailsEntry disk disk_new c → ⊥
+unfolding FailsEntry
+entry_not_failing disk disk_new chain cause.DiskFault has fails = has.count fails
+entry_not_failing disk disk_new chain cause.Usage has fails = absurd fails
+entry_not_failing disk disk_new chain cause.ShelfFault has fails = absurd fails
+entry_not_failing disk disk_new chain (cause.Refused r) has fails = absurd fails
+entry_not_failing disk disk_new chain (cause.TooLarge d) has fails = absurd fails
+entry_not_failing disk disk_new chain (cause.Damaged file place) has fails = absurd fails
+entry_not_failing disk disk_new chain (cause.Occupied image step) has fails = absurd fails
+
+listing_not_failing : (disk disk_new : Plate) (chain : Option Found) (c : Cause) → HasChain disk disk_new chain → FailsListing disk disk_new c → ⊥
+unfolding FailsListing
+listing_not_failing disk disk_new chain cause.DiskFault has fails = has.count fails
+listing_not_failing disk disk_new chain cause.Usage has fails = absurd fails
+listing_not_failing disk disk_new chain cause.ShelfFault has fails = absurd fails
+listing_not_failing disk disk_new chain (cause.Refused r) has fails = absurd fails
+listing_not_failing disk disk_new chain (cause.TooLarge d) has fails = absurd fails
+listing_not_failing disk disk_new chain (cause.Damaged file place) has fails = let damaged = fails has.store has.seen in absurd (cc (sym damaged ∙ has.found))
+listing_not_failing disk disk_new chain (cause.Occupied image step) has fails = absurd fails
+
+-- it tells the records of the chain
+abbrev pub TellsChain : Option Found → Done → Type 0
+TellsChain chain d = (done_status d ≡ 0) × (done_text d ≡ chain_text chain)
+
+records_said : (disk : Plate) (disk_new : Plate) (chain : Option Found) (text : List ℕ) → HasChain disk disk_new chain → IsListed disk text → text ≡ chain_text chain
+unfolding IsListed
+records_said disk disk_new chain text has listed =
+    let lists : Lists has.store text = listed has.store has.seen in
+    let same : lists.0 ≡ chain = cc (sym lists.1 ∙ has.found) in
+    lists.2 ∙ ap chain_text same
+
+pub with_store : (disk disk_new : Plate) (chain : Option Found) (o : Result Done Stop) → HasChain disk disk_new chain → Comes (row.Images disk disk_new) o → IsCarriedOut (TellsChain chain) o
+with_store disk disk_new chain (Ok d) has came =
+    let is : d ≡ done.Printed came.2.0 = came.2.2 in
+    inr (d, refl, subst (TellsChain chain) (sym is) (refl, records_said disk disk_new chain came.2.0 has came.2.1))
+with_store disk disk_new chain (Err NoMemory) has came = inl refl
+with_store disk disk_new chain (Err (Because c)) has came =
+    ⊎_elim (λ fails. absurd (entry_not_failing disk disk_new chain c has fails)) (λ entered.
+    ⊎_elim (λ fails. absurd (listing_not_failing disk disk_new chain c has fails)) (λ listed. absurd listed.2) entered.2) came
+
 -- ---- what is told
 
 pub whole_text : (o : Result Done Stop) (k l : SinkView) (result : ℕ) → Tells o k l result → IsTrue k.tells → (Rose k.faults l.faults → ⊥) → (l.written ≡ k.written ++ text_of o) × (result ≡ status_of o)
@@ -125,12 +173,14 @@ unfolding Counted
 counts_said tree (done.Accepted c) is = (refl, c, is, refl)
 counts_said tree (done.Finished r) is = absurd is
 counts_said tree (done.Printed t) is = absurd is
+counts_said tree (done.Told t) is = absurd is
 
 pub text_said : (IsText : List ℕ → Type 0) (d : Done) → Printed IsText d → (done_status d ≡ 0) × IsText (done_text d)
 unfolding Printed
 text_said IsText (done.Printed t) is = (refl, is)
 text_said IsText (done.Accepted c) is = absurd is
 text_said IsText (done.Finished r) is = absurd is
+text_said IsText (done.Told t) is = absurd is
 
 pub run_said : (tree : Resolved) (input : List ℕ) (until : ℕ) (d : Done) → Evaluated tree input until d → let m = meaning tree input until in (done_status d ≡ ending_status m.ending) × (done_text d ≡ run_text (run.output m.events) m.ending m.ticks)
 unfolding Evaluated
@@ -139,25 +189,30 @@ run_said tree input until (done.Finished r) is =
     (ap ending_status is.same_ending, ap (λ (out : List ℕ). run_text out r.ending r.ticks) is.same_output ∙ ap (λ (e : Ending). run_text (run.output m.events) e r.ticks) is.same_ending ∙ ap (λ (n : ℕ). run_text (run.output m.events) m.ending n) is.same_ticks)
 run_said tree input until (done.Accepted c) is = absurd is
 run_said tree input until (done.Printed t) is = absurd is
+run_said tree input until (done.Told t) is = absurd is
 
 -- ---- the clause
 
-pub complete : (words : List (List ℕ)) (command : Option Command) (v w : ShelfView) (k l : SinkView) (result : ℕ) (o : Result Done Stop) → Comes (CarriesSome words command (sight v) (sight w)) o → Tells o k l result → Complete words command v w k l result
-complete words None v w k l result o came told = λ job ready well. no_command job o came (whole_text o k l result told well.console_tells well.console_count)
-  where
-    no_command : (job : Job) (o : Result Done Stop) → Comes (CarriesSome words None (sight v) (sight w)) o → (l.written ≡ k.written ++ text_of o) × (result ≡ status_of o) → (result ≡ 12) ⊎ ((text : List ℕ) × (l.written ≡ k.written ++ text) × Says None job result text)
-    no_command job (Ok d) came whole = absurd came
-    no_command job (Err NoMemory) came whole = inl whole.1
-    no_command job (Err (Because c)) came whole = inr (text_of (Err (Because c)), whole.0, (subst (λ (x : Cause). (result ≡ status_of (Err (Because x)))) came whole.1, ap (λ (x : Cause). text_of (Err (Because x))) came))
-complete words (Some (Check source)) v w k l result o came told = λ job ready well.
+no_command : (k l : SinkView) (result : ℕ) (o : Result Done Stop) → Comes NoCommand o → (l.written ≡ k.written ++ text_of o) × (result ≡ status_of o) → (result ≡ 12) ⊎ ((text : List ℕ) × (l.written ≡ k.written ++ text) × ((result ≡ 1) × (text ≡ usage_line)))
+no_command k l result (Ok d) came whole = absurd came
+no_command k l result (Err NoMemory) came whole = inl whole.1
+no_command k l result (Err (Because c)) came whole = inr (text_of (Err (Because c)), whole.0, (subst (λ (x : Cause). (result ≡ status_of (Err (Because x)))) came whole.1, ap (λ (x : Cause). text_of (Err (Because x))) came))
+
+pub complete : (words : List (List ℕ)) (command : Option Command) (v w : ShelfView) (disk disk_new : Plate) (k l : SinkView) (result : ℕ) (o : Result Done Stop) → Comes (CarriesSome words command (sight v) (sight w) disk disk_new) o → Tells o k l result → Complete words command v w disk disk_new k l result
+complete words None v w disk disk_new k l result o came told = λ job ready well. no_command k l result o came (whole_text o k l result told well.console_tells well.console_count)
+complete words (Some (Check source)) v w disk disk_new k l result o came told = λ job ready well.
     told_well (Says (Some (Check source)) job) (Counted job.tree) o k l result (whole_text o k l result told well.console_tells well.console_count) (counts_said job.tree)
     (with_source Counted (word_at words source) v w job.tree o well.shelf_tells well.shelf_count ready came)
-complete words (Some (Compile source)) v w k l result o came told = λ job ready well.
+complete words (Some (Compile source)) v w disk disk_new k l result o came told = λ job ready well.
     told_well (Says (Some (Compile source)) job) (Printed (IsListing job.tree)) o k l result (whole_text o k l result told well.console_tells well.console_count) (text_said (IsListing job.tree))
     (with_source (λ t. Printed (IsListing t)) (word_at words source) v w job.tree o well.shelf_tells well.shelf_count ready came)
-complete words (Some (Report source)) v w k l result o came told = λ job ready well.
+complete words (Some (Report source)) v w disk disk_new k l result o came told = λ job ready well.
     told_well (Says (Some (Report source)) job) (Printed (IsReport job.tree)) o k l result (whole_text o k l result told well.console_tells well.console_count) (text_said (IsReport job.tree))
     (with_source (λ t. Printed (IsReport t)) (word_at words source) v w job.tree o well.shelf_tells well.shelf_count ready came)
-complete words (Some (Plain source input until)) v w k l result o came told = λ job ready well.
+complete words (Some (Plain source input until)) v w disk disk_new k l result o came told = λ job ready well.
     told_well (Says (Some (Plain source input until)) job) (Evaluated job.tree job.input until) o k l result (whole_text o k l result told well.console_tells well.console_count) (run_said job.tree job.input until)
     (with_both (λ t b. Evaluated t b until) (word_at words source) (word_at words input) v w job o well.shelf_tells well.shelf_count ready.0 ready.1 came)
+complete words (Some (Run source input dir settings)) v w disk disk_new k l result o came told = λ job ready well. no_command k l result o came (whole_text o k l result told well.console_tells well.console_count)
+complete words (Some (Images dir)) v w disk disk_new k l result o came told = λ job ready well.
+    told_well (Says (Some (Images dir)) job) (TellsChain job.chain) o k l result (whole_text o k l result told well.console_tells well.console_count) (λ d is. is)
+    (with_store disk disk_new job.chain o ready came)

@@ -5,4 +5,7 @@ mod AlikeGraphs
 mod MainGraphs
 mod Fitted
 mod Joining
+mod Disks
+mod Looking
+mod SourceRead
 mod Completeness

@@ -1,7 +1,8 @@
 -- What the words come to: a row each.
 use Rattle.std.specs.Prelude.{◌≡◌, ℕ, List, [], Option, Some, None, Ok, Err, slice_index_or}
 use Rattle.command_words.specs.declared.command.Command.{Command}
-use Rattle.command_words.specs.declared.command.Command.TheVariants.{Plain, Check, Compile, Report}
+use Rattle.command_words.specs.declared.command.Command.TheVariants.{Plain, Check, Compile, Report, Run, Images}
+use Rattle.disk_model.specs.Plate.{Plate}
 use Rattle.ckpt_program.specs.Sight.{Sight}
 use Rattle.ckpt_program.specs.Stage.{Stage}
 use Rattle.ckpt_program.specs.Rows as row
@@ -17,12 +18,14 @@ abbrev pub NoCommand : Stage Done
 NoCommand (Ok d) = ⊥
 NoCommand (Err c) = c ≡ cause.Usage
 
-abbrev pub Carries : (words : List (List ℕ)) → Command → (old new : Sight) → Stage Done
-Carries words (Check source) old new = row.Check (word_at words source) old new
-Carries words (Compile source) old new = row.Compile (word_at words source) old new
-Carries words (Report source) old new = row.Report (word_at words source) old new
-Carries words (Plain source input until) old new = row.Plain (word_at words source) (word_at words input) until old new
+abbrev pub Carries : (words : List (List ℕ)) → Command → (old new : Sight) (disk disk_new : Plate) → Stage Done
+Carries words (Check source) old new disk disk_new = row.Check (word_at words source) old new
+Carries words (Compile source) old new disk disk_new = row.Compile (word_at words source) old new
+Carries words (Report source) old new disk disk_new = row.Report (word_at words source) old new
+Carries words (Plain source input until) old new disk disk_new = row.Plain (word_at words source) (word_at words input) until old new
+Carries words (Run source input dir settings) old new disk disk_new = NoCommand
+Carries words (Images dir) old new disk disk_new = row.Images disk disk_new
 
-abbrev pub CarriesSome : (words : List (List ℕ)) → Option Command → (old new : Sight) → Stage Done
-CarriesSome words None old new = NoCommand
-CarriesSome words (Some command) old new = Carries words command old new
+abbrev pub CarriesSome : (words : List (List ℕ)) → Option Command → (old new : Sight) (disk disk_new : Plate) → Stage Done
+CarriesSome words None old new disk disk_new = NoCommand
+CarriesSome words (Some command) old new disk disk_new = Carries words command old new disk disk_new

@@ -10,6 +10,8 @@ pub mod Reasons
 pub mod Accepted
 -- the stages that read files
 pub mod Stages
+-- the stages that use a store
+pub mod DiskStages
 -- what `compile` prints
 pub mod Listed
 -- what `report` prints

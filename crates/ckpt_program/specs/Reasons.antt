@@ -3,9 +3,11 @@ use Rattle.c_reader.specs.declared.fault.ReadFault.{ReadFault}
 use Rattle.c_reader.specs.declared.fault.ReadFault.TheVariants as text
 use Rattle.c_types.specs.declared.fault.CheckFault.{CheckFault}
 use Rattle.c_types.specs.declared.fault.CheckFault.TheVariants as rule
+use Rattle.chain_listing.specs.declared.fault.ListFault.{ListFault}
+use Rattle.chain_listing.specs.declared.fault.ListFault.TheVariants as listing
 use Rattle.ckpt_program.specs.declared.refusal.Refusal.TheVariants as refusal
 use Rattle.ckpt_program.specs.declared.stop.Document.TheVariants as document
-use Rattle.ckpt_program.specs.declared.stop.Cause.TheVariants.{Refused, TooLarge}
+use Rattle.ckpt_program.specs.declared.stop.Cause.TheVariants.{Refused, TooLarge, DiskFault, Damaged}
 use Rattle.ckpt_program.specs.declared.stop.Stop.{Stop}
 use Rattle.ckpt_program.specs.declared.stop.Stop.TheVariants.{NoMemory, Because}
 
@@ -32,3 +34,9 @@ stop_of_rule (rule.TooManyCells n) = Because (Refused (refusal.TooManyCells n))
 stop_of_rule (rule.TooManyLocals name) = Because (Refused (refusal.TooManyLocals name))
 stop_of_rule (rule.TooManyNodes n) = Because (Refused (refusal.TooManyNodes n))
 stop_of_rule (rule.TooManyDirectives n) = Because (Refused (refusal.TooManyDirectives n))
+
+-- the records of its store are not listed
+abbrev pub stop_of_listing : ListFault → Stop
+stop_of_listing listing.Memory = NoMemory
+stop_of_listing listing.Failed = Because DiskFault
+stop_of_listing (listing.Damaged file place) = Because (Damaged file place)

@@ -9,6 +9,8 @@ use Rattle.c_meaning.specs.Plain.{IsPlain}
 use Rattle.ckpt_program.specs.Sight.{Sight}
 use Rattle.ckpt_program.specs.Stage.{Stage, ◌>>=◌, only}
 use Rattle.ckpt_program.specs.Stages.{File, Source}
+use Rattle.disk_model.specs.Plate.{Plate}
+use Rattle.ckpt_program.specs.DiskStages.{Entered, Listed}
 use Rattle.ckpt_program.specs.Listed.{IsListing}
 use Rattle.ckpt_program.specs.Report.{IsReport}
 use Rattle.ckpt_program.specs.declared.done.Counts.{Counts}
@@ -67,3 +69,10 @@ abbrev pub Plain : (source input : List ℕ) (until : ℕ) (old new : Sight) →
 Plain source input until old new = do
   tree ← Source source old new
   OnInput tree input until old new
+
+-- `images DIR`
+abbrev pub Images : (old new : Plate) → Stage Done
+Images old new = do
+  entered ← Entered old new
+  text ← Listed old new
+  only (λ d. d ≡ done.Printed text)

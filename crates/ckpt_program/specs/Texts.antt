@@ -1,6 +1,9 @@
 -- The status and the text of what a command has come to.
 use Rattle.std.specs.Prelude.{ℕ, List, [], ◌++◌, Result, Ok, Err, codes}
-use Rattle.std.specs.Fmt.{decimal, signed_decimal}
+use Rattle.std.specs.Fmt.{decimal}
+use Rattle.disk_model.specs.declared.disk_file.DiskFile.{DiskFile}
+use Rattle.disk_model.specs.Store.{number_of}
+use Rattle.life_lines.specs.Lines.{ending_line}
 use Rattle.ckpt_base.specs.declared.ending.Ending.{Ending}
 use Rattle.ckpt_base.specs.declared.ending.Ending.TheVariants.{Ended, Trapped, Going}
 use Rattle.ckpt_program.specs.declared.refusal.Refusal.{Refusal}
@@ -16,12 +19,6 @@ use Rattle.ckpt_program.specs.declared.stop.Stop.TheVariants as stop
 
 -- ---- what a command has done
 
--- how a run ended and how many steps it took
-abbrev pub ending_line : Ending → ℕ → List ℕ
-ending_line (Ended v) n = codes "end " ++ (signed_decimal v ++ (codes " steps " ++ (decimal n ++ codes "\n")))
-ending_line (Trapped t) n = codes "trap " ++ (decimal t ++ (codes " steps " ++ (decimal n ++ codes "\n")))
-ending_line Going n = codes "stopped steps " ++ (decimal n ++ codes "\n")
-
 -- the output of a run, a newline, and its ending
 abbrev pub run_text : (output : List ℕ) → Ending → ℕ → List ℕ
 run_text output ending n = output ++ codes "\n" ++ ending_line ending n
@@ -34,6 +31,7 @@ abbrev pub done_text : Done → List ℕ
 done_text (done.Accepted c) = counts_line c
 done_text (done.Finished r) = run_text r.output.list r.ending r.ticks
 done_text (done.Printed t) = t
+done_text (done.Told t) = t.text.list
 
 -- 0 where a run ended, 3 where it trapped, 4 where it stopped at its bound
 abbrev pub ending_status : Ending → ℕ
@@ -45,6 +43,7 @@ abbrev pub done_status : Done → ℕ
 done_status (done.Accepted c) = 0
 done_status (done.Finished r) = ending_status r.ending
 done_status (done.Printed t) = 0
+done_status (done.Told t) = ending_status t.ending
 
 -- ---- why it stopped
 
@@ -68,10 +67,16 @@ refusal_text (refusal.TooManyDirectives n) = decimal n ++ codes " excludes"
 abbrev pub refused_line : Refusal → List ℕ
 refused_line r = codes "refused: " ++ refusal_text r ++ codes "\n"
 
+abbrev pub damaged_line : DiskFile → ℕ → List ℕ
+damaged_line file place = codes "damaged file " ++ (decimal (number_of file) ++ (codes " at " ++ (decimal place ++ codes "\n")))
+
+abbrev pub occupied_line : (image step : ℕ) → List ℕ
+occupied_line image step = codes "occupied: image " ++ (decimal image ++ (codes " step " ++ (decimal step ++ codes "\n")))
+
 abbrev pub usage_line : List ℕ
 usage_line = codes "usage: ckpt plain|check|compile|report|run|restart|images|coalesce|clear|drill|generate\n"
 
--- the line of a cause other than a refusal
+-- the line of a cause that is always the same
 abbrev pub fixed_line : Cause → List ℕ
 fixed_line cause.Usage = usage_line
 fixed_line (cause.Refused r) = []
@@ -79,9 +84,13 @@ fixed_line cause.DiskFault = codes "disk fault\n"
 fixed_line cause.ShelfFault = codes "shelf fault\n"
 fixed_line (cause.TooLarge document.Source) = codes "too large: source\n"
 fixed_line (cause.TooLarge document.Input) = codes "too large: input\n"
+fixed_line (cause.Damaged file place) = []
+fixed_line (cause.Occupied image step) = []
 
 abbrev pub cause_text : Cause → List ℕ
 cause_text (cause.Refused r) = refused_line r
+cause_text (cause.Damaged file place) = damaged_line file place
+cause_text (cause.Occupied image step) = occupied_line image step
 cause_text c = fixed_line c
 
 abbrev pub cause_status : Cause → ℕ
@@ -89,6 +98,8 @@ cause_status cause.Usage = 1
 cause_status (cause.Refused r) = 2
 cause_status cause.DiskFault = 5
 cause_status cause.ShelfFault = 6
+cause_status (cause.Damaged file place) = 8
+cause_status (cause.Occupied image step) = 10
 cause_status (cause.TooLarge d) = 11
 
 -- ---- what a command has come to

@@ -34,4 +34,6 @@ Tells o old new result = Takes (text_of o) (status_of o) (broken_status o) old n
 abbrev pub HasFixedLine : Result Done Stop → Type 0
 HasFixedLine (Ok d) = ⊥
 HasFixedLine (Err (stop.Because (cause.Refused r))) = ⊥
+HasFixedLine (Err (stop.Because (cause.Damaged file place))) = ⊥
+HasFixedLine (Err (stop.Because (cause.Occupied image step))) = ⊥
 HasFixedLine (Err e) = Unit {0}

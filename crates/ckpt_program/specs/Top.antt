@@ -1,5 +1,5 @@
 -- The clauses of the top call: the one on its outcome, those that name none, and the one on completeness.
-use Rattle.std.specs.Prelude.{◌≡◌, ◌<◌, ◌≤◌, ◌-◌, ◌^◌, ◌⊎◌, ◌++◌, ℕ, IsTrue, List, length, Option, Some, None, Result}
+use Rattle.std.specs.Prelude.{◌≡◌, ◌<◌, ◌≤◌, ◌-◌, ◌^◌, ◌⊎◌, ◌++◌, ℕ, IsTrue, List, length, Option, Some, None, Result, Ok}
 use Rattle.ckpt_base.specs.Faults.{Rose}
 use Rattle.ckpt_base.specs.Run as run
 use Rattle.ckpt_base.specs.Shelf.{ShelfView, file_named}
@@ -8,11 +8,15 @@ use Rattle.c_tree.specs.declared.resolved.Resolved.{Resolved}
 use Rattle.c_tree.specs.Meaning.{meaning}
 use Rattle.command_words.specs.Words.{command_of}
 use Rattle.command_words.specs.declared.command.Command.{Command}
-use Rattle.command_words.specs.declared.command.Command.TheVariants.{Plain, Check, Compile, Report}
+use Rattle.command_words.specs.declared.command.Command.TheVariants.{Plain, Check, Compile, Report, Run, Images}
 use Rattle.disk_model.specs.Store.{Store}
 use Rattle.disk_model.specs.View.{View}
+use Rattle.disk_model.specs.Plate.{Plate, plate}
 use Rattle.disk_model.specs.Moments.{LeavesOnly}
 use Rattle.disk_model.specs.Keeps.{LeavesNow, Untouched}
+use Rattle.image_chain.specs.Records.{Found, chain_in}
+use Rattle.chain_listing.specs.Store.{chain_text}
+use Rattle.ckpt_program.specs.DiskStages.{OnlyLasting}
 use Rattle.ckpt_program.specs.Sight.{sight}
 use Rattle.ckpt_program.specs.Fetched.{limit_of}
 use Rattle.ckpt_program.specs.Stage.{Comes}
@@ -29,10 +33,10 @@ use Rattle.ckpt_program.specs.declared.stop.Stop.{Stop}
 use Rattle.ckpt_program.specs.declared.stop.Document.{Document}
 use Rattle.ckpt_program.specs.declared.stop.Document.TheVariants as document
 
--- There is one outcome that comes by the words and the shelf, and it is told on the console.
-abbrev pub Answers : (words : List (List ℕ)) → (shelf shelf_new : ShelfView) (console console_new : SinkView) → (result : ℕ) → Type 0
-Answers words shelf shelf_new console console_new result =
-    (o : Result Done Stop) × Comes (CarriesSome words (command_of words) (sight shelf) (sight shelf_new)) o × Tells o console console_new result
+-- There is one outcome that comes by the words, the shelf and the disk, and it is told on the console.
+abbrev pub Answers : (words : List (List ℕ)) → (shelf shelf_new : ShelfView) (disk disk_new : View) (console console_new : SinkView) → (result : ℕ) → Type 0
+Answers words shelf shelf_new disk disk_new console console_new result =
+    (o : Result Done Stop) × Comes (CarriesSome words (command_of words) (sight shelf) (sight shelf_new) (plate disk) (plate disk_new)) o × Tells o console console_new result
 
 -- Where the count rose, this is the status. A count that stands at the greatest u64 does not count as risen here.
 abbrev pub Blames : (status : ℕ) (old new : ℕ) (result : ℕ) → Type 0
@@ -40,9 +44,14 @@ Blames status old new result = Rose old new → old < 2 ^ 64 - 1 → result ≡ 
 
 -- ---- the disk
 
--- the command changes no contents
+-- the command does not use the disk
 abbrev pub IsQuiet : Option Command → Type 0
+IsQuiet (Some (Images dir)) = ⊥
 IsQuiet command = Unit {0}
+
+-- the command changes no contents
+abbrev pub KeepsContents : Option Command → Type 0
+KeepsContents command = Unit {0}
 
 -- the command loses no image
 abbrev pub KeepsImages : Option Command → Type 0
@@ -56,9 +65,9 @@ AnyMoment command old new = LeavesOnly old new old.may_leave
 abbrev pub NoImageLost : Option Command → (old new : View) → Type 0
 NoImageLost command old new = KeepsImages command → (newest : Store → ℕ) (j : ℕ) → LeavesNow (λ c. j ≤ newest c) old → LeavesOnly old new (λ c. j ≤ newest c)
 
--- A command that changes nothing, and one that finds no memory, leaves the contents as they were, and what a crash may leave.
+-- A command that does not use the disk leaves all as it was. One that changes nothing, and one that finds no memory, leaves the contents, and of them a crash leaves no less than before.
 abbrev pub LeavesContents : Option Command → (result : ℕ) → (old new : View) → Type 0
-LeavesContents command result old new = IsQuiet command ⊎ (result ≡ 12) → Untouched old new
+LeavesContents command result old new = (IsQuiet command → Untouched old new) × (KeepsContents command ⊎ (result ≡ 12) → OnlyLasting old new)
 
 -- ---- completeness
 
@@ -82,14 +91,24 @@ HasProgram name shelf tree = (text : List ℕ) × HasFile document.Source name s
 pub record Job : Type 0 where
   pub tree : Resolved
   pub input : List ℕ
+  pub chain : Option Found
 
--- the files of the command are as they should be
-abbrev pub IsReady : (words : List (List ℕ)) → Option Command → ShelfView → Job → Type 0
-IsReady words None shelf job = Unit {0}
-IsReady words (Some (Check source)) shelf job = HasProgram (word_at words source) shelf job.tree
-IsReady words (Some (Compile source)) shelf job = HasProgram (word_at words source) shelf job.tree
-IsReady words (Some (Report source)) shelf job = HasProgram (word_at words source) shelf job.tree
-IsReady words (Some (Plain source input until)) shelf job = HasProgram (word_at words source) shelf job.tree × HasFile document.Input (word_at words input) shelf job.input
+-- the store is told, has this chain, and no call on the disk failed
+pub record HasChain (disk disk_new : Plate) (chain : Option Found) : Type 0 where
+  pub store : Store
+  pub seen : disk.seen ≡ Some store
+  pub found : chain_in store ≡ Ok chain
+  pub count : Rose disk.faults disk_new.faults → ⊥
+
+-- the files of the command are as they should be, and so is its store
+abbrev pub IsReady : (words : List (List ℕ)) → Option Command → ShelfView → (disk disk_new : Plate) → Job → Type 0
+IsReady words None shelf disk disk_new job = Unit {0}
+IsReady words (Some (Check source)) shelf disk disk_new job = HasProgram (word_at words source) shelf job.tree
+IsReady words (Some (Compile source)) shelf disk disk_new job = HasProgram (word_at words source) shelf job.tree
+IsReady words (Some (Report source)) shelf disk disk_new job = HasProgram (word_at words source) shelf job.tree
+IsReady words (Some (Plain source input until)) shelf disk disk_new job = HasProgram (word_at words source) shelf job.tree × HasFile document.Input (word_at words input) shelf job.input
+IsReady words (Some (Run source input dir settings)) shelf disk disk_new job = Unit {0}
+IsReady words (Some (Images dir)) shelf disk disk_new job = HasChain disk disk_new job.chain
 
 -- the status and the text that are meant
 abbrev pub Says : Option Command → Job → (status : ℕ) (text : List ℕ) → Type 0
@@ -100,9 +119,11 @@ Says (Some (Report source)) job status text = (status ≡ 0) × IsReport job.tre
 Says (Some (Plain source input until)) job status text =
     let r = meaning job.tree job.input until in
     (status ≡ ending_status r.ending) × (text ≡ run_text (run.output r.events) r.ending r.ticks)
+Says (Some (Run source input dir settings)) job status text = (status ≡ 1) × (text ≡ usage_line)
+Says (Some (Images dir)) job status text = (status ≡ 0) × (text ≡ chain_text job.chain)
 
--- Where the files are as they should be and no count rose, exactly what is meant is told, or that there is no memory.
-abbrev pub Complete : (words : List (List ℕ)) → Option Command → (shelf shelf_new : ShelfView) (console console_new : SinkView) → (result : ℕ) → Type 0
-Complete words command shelf shelf_new console console_new result =
-    (job : Job) → IsReady words command shelf job → IsFaultless shelf shelf_new console console_new
+-- Where the files and the store are as they should be and no count rose, exactly what is meant is told, or that there is no memory.
+abbrev pub Complete : (words : List (List ℕ)) → Option Command → (shelf shelf_new : ShelfView) (disk disk_new : Plate) (console console_new : SinkView) → (result : ℕ) → Type 0
+Complete words command shelf shelf_new disk disk_new console console_new result =
+    (job : Job) → IsReady words command shelf disk disk_new job → IsFaultless shelf shelf_new console console_new
     → (result ≡ 12) ⊎ ((text : List ℕ) × (console_new.written ≡ console.written ++ text) × Says command job result text)

@@ -1,10 +1,11 @@
 //! What a command has done, and what is told of that.
 
 ghost use Rattle.std.specs.Prelude.{◌≡◌, IfOk};
+ghost use Rattle.life_lines.specs.Lines as lines;
 ghost use Rattle.ckpt_program.specs.Texts as spec;
 
 use c_meaning::PlainRun;
-use ckpt_base::{Ending, Text};
+use ckpt_base::{Bytes, Ending, Text};
 use std::alloc::{AllocError, Global};
 
 /// How much an accepted program has.
@@ -18,6 +19,15 @@ pub struct Counts {
     pub excludes: u16,
 }
 
+/// What is told of a life that is over.
+#[derive(Drop)]
+pub struct Told {
+    /// How its run stands.
+    pub ending: Ending,
+    /// The lines on its start and its end.
+    pub text: Bytes,
+}
+
 /// What a command has done.
 #[derive(Drop)]
 pub enum Done {
@@ -27,6 +37,8 @@ pub enum Done {
     Finished(PlainRun),
     /// There is a text to print.
     Printed(Text),
+    /// A life ran, and is told in room that was taken for it.
+    Told(Told),
 }
 
 impl Done {
@@ -37,6 +49,7 @@ impl Done {
         match self {
             Done::Accepted(_) | Done::Printed(_) => 0,
             Done::Finished(run) => ending_status(&run.ending),
+            Done::Told(told) => ending_status(&told.ending),
         }
     }
 
@@ -48,11 +61,13 @@ impl Done {
             Done::Accepted(counts) => counts_line(alloc, *counts),
             Done::Finished(run) => run_text(alloc, run),
             Done::Printed(text) => Vec::from_slice(alloc, text.as_bytes()),
+            Done::Told(told) => Vec::from_slice(alloc, told.text.as_slice()),
         }
     }
 }
 
-fn ending_status(ending: &Ending) -> u8
+/// The status of a run.
+pub fn ending_status(ending: &Ending) -> u8
     ensures answer { result ≡ spec.ending_status ending.now }
 {
     match ending {
@@ -88,7 +103,7 @@ fn run_text(alloc: Global, run: &PlainRun) -> Result<Vec<u8>, AllocError>
 
 // How a run ended and how many steps it took.
 fn ending_line(alloc: Global, ending: &Ending, ticks: u64) -> Result<Vec<u8>, AllocError>
-    ensures answer { IfOk result (λ t. t.items ≡ spec.ending_line ending.now ticks) }
+    ensures answer { IfOk result (λ t. t.items ≡ lines.ending_line ending.now ticks) }
 {
     let line = match ending {
         Ending::Ended(value) => format!(in alloc; "end {value} steps {ticks}\n")?,

@@ -12,10 +12,12 @@ mod check_rows;
 mod code;
 mod compile;
 mod console;
+mod disk_stages;
 mod done;
 #[cfg(test)]
 mod graph_tests;
 mod graphs;
+mod images;
 mod intake;
 #[cfg(test)]
 mod machine_run;

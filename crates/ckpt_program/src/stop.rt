@@ -7,7 +7,9 @@ ghost use Rattle.ckpt_program.specs.Texts as spec;
 use crate::refusal::Refusal;
 use c_reader::ReadFault;
 use c_types::CheckFault;
+use chain_listing::ListFault;
 use ckpt_base::{Failed, NoMemory};
+use disk_model::DiskFile;
 use std::alloc::{AllocError, Global};
 
 /// A file that a command reads.
@@ -44,6 +46,20 @@ pub enum Cause {
     ShelfFault,
     /// A file is longer than its limit.
     TooLarge(Document),
+    /// A file of the store is damaged.
+    Damaged {
+        /// The file.
+        file: DiskFile,
+        /// The place in it, counted from 0.
+        place: u64,
+    },
+    /// The store has a chain, and the life was to begin.
+    Occupied {
+        /// The number of its newest image.
+        image: u32,
+        /// The steps taken up to it.
+        step: u64,
+    },
 }
 
 /// Why a command stops before it is done.
@@ -69,17 +85,19 @@ impl Cause {
             Cause::Refused(_) => 2,
             Cause::DiskFault => 5,
             Cause::ShelfFault => 6,
+            Cause::Damaged { .. } => 8,
+            Cause::Occupied { .. } => 10,
             Cause::TooLarge(_) => 11,
         }
     }
 
-    /// The line that tells it. That of a refusal is made by `refused_line`; here it is empty.
+    /// The line that tells it. Those of a refusal, of damage and of an occupied store are made by functions of their own; here they are empty.
     pub fn fixed_line(&self) -> &'static [u8]
         ensures answer { result.now ≡ spec.fixed_line self.now }
     {
         match self {
             Cause::Usage => USAGE,
-            Cause::Refused(_) => b"",
+            Cause::Refused(_) | Cause::Damaged { .. } | Cause::Occupied { .. } => b"",
             Cause::DiskFault => b"disk fault\n",
             Cause::ShelfFault => b"shelf fault\n",
             Cause::TooLarge(Document::Source) => b"too large: source\n",
@@ -97,6 +115,22 @@ pub fn refused_line(alloc: Global, refusal: &Refusal) -> Result<Vec<u8>, AllocEr
     line.extend_from_slice(&text)?;
     line.push(b'\n')?;
     Ok(line)
+}
+
+/// The text that tells damage.
+pub fn damaged_line(alloc: Global, file: DiskFile, place: u64) -> Result<Vec<u8>, AllocError>
+    ensures answer { IfOk result (λ t. t.items ≡ spec.damaged_line file place) }
+{
+    let line = format!(in alloc; "damaged file {file} at {place}\n")?;
+    Vec::from_slice(alloc, line.as_bytes())
+}
+
+/// The text that tells an occupied store.
+pub fn occupied_line(alloc: Global, image: u32, step: u64) -> Result<Vec<u8>, AllocError>
+    ensures answer { IfOk result (λ t. t.items ≡ spec.occupied_line image step) }
+{
+    let line = format!(in alloc; "occupied: image {image} step {step}\n")?;
+    Vec::from_slice(alloc, line.as_bytes())
 }
 
 impl From<NoMemory> for Stop {
@@ -127,6 +161,20 @@ impl From<Failed> for Stop {
 
     fn from(_: Failed) -> Stop {
         Stop::Because(Cause::DiskFault)
+    }
+}
+
+impl From<ListFault> for Stop {
+    ghost use Rattle.ckpt_program.specs.Reasons.{stop_of_listing};
+
+    ghost from_gives = { λ f e. e ≡ stop_of_listing f };
+
+    fn from(fault: ListFault) -> Stop {
+        match fault {
+            ListFault::Memory => Stop::NoMemory,
+            ListFault::Failed => Stop::Because(Cause::DiskFault),
+            ListFault::Damaged { file, place } => Stop::Because(Cause::Damaged { file, place }),
+        }
     }
 }
 

@@ -6,8 +6,8 @@ ghost use Rattle.ckpt_program.specs.Texts.{status_of};
 ghost use Rattle.ckpt_program.specs.Told.{Takes, Tells, HasFixedLine};
 
 use crate::console::write_all;
-use crate::done::Done;
-use crate::stop::{Cause, Stop, refused_line};
+use crate::done::{Done, ending_status};
+use crate::stop::{Cause, Stop, damaged_line, occupied_line, refused_line};
 use ckpt_base::{Failed, Sink};
 use std::alloc::Global;
 
@@ -24,18 +24,40 @@ pub fn tell<K: Sink>(alloc: Global, console: &mut K, came: &Result<Done, Stop>) 
     ensures fixed { HasFixedLine came.now → result ≡ status_of came.now }
 {
     match came {
+        Ok(Done::Told(told)) => write(
+            console,
+            told.text.as_slice(),
+            ending_status(&told.ending),
+            CONSOLE_FAULT,
+        ),
         Ok(done) => match done.text(alloc) {
             Ok(text) => write(console, &text, done.status(), CONSOLE_FAULT),
             Err(_) => no_memory(console),
         },
         Err(Stop::NoMemory) => no_memory(console),
-        Err(Stop::Because(Cause::Refused(refusal))) => match refused_line(alloc, refusal) {
+        Err(Stop::Because(cause)) => tell_cause(alloc, console, cause),
+    }
+}
+
+// Tells on the console for what cause a command has stopped, or that there is no memory for its text, and answers the status.
+fn tell_cause<K: Sink>(alloc: Global, console: &mut K, cause: &Cause) -> u8
+    ensures answer { Tells (Err (stop.Because cause.now)) (K.view console.old) (K.view console.new) result ⊎ Tells (Err stop.NoMemory) (K.view console.old) (K.view console.new) result }
+    ensures fixed { HasFixedLine (Err (stop.Because cause.now)) → result ≡ status_of (Err (stop.Because cause.now)) }
+{
+    match cause {
+        Cause::Refused(refusal) => match refused_line(alloc, refusal) {
             Ok(text) => write(console, &text, 2, 2),
             Err(_) => no_memory(console),
         },
-        Err(Stop::Because(cause)) => {
-            write(console, cause.fixed_line(), cause.status(), cause.status())
-        }
+        Cause::Damaged { file, place } => match damaged_line(alloc, *file, *place) {
+            Ok(text) => write(console, &text, 8, 8),
+            Err(_) => no_memory(console),
+        },
+        Cause::Occupied { image, step } => match occupied_line(alloc, *image, *step) {
+            Ok(text) => write(console, &text, 10, 10),
+            Err(_) => no_memory(console),
+        },
+        cause => write(console, cause.fixed_line(), cause.status(), cause.status()),
     }
 }
 

@@ -1,16 +1,19 @@
 //! The whole program.
 
-ghost use Rattle.std.specs.Prelude.{◌≡◌, ◌<◌, length};
+ghost use Rattle.std.specs.Prelude.{◌≡◌, ◌<◌, length, Some};
 ghost use Rattle.disk_model.specs.View.{Steady};
+ghost use Rattle.disk_model.specs.Plate.{plate};
 ghost use Rattle.command_words.specs.Words.{command_of, HasPlaces};
 ghost use Rattle.ckpt_program.specs.Sight.{sight, Calm, Later};
 ghost use Rattle.ckpt_program.specs.Stage.{Comes};
+ghost use Rattle.ckpt_program.specs.DiskStages.{CalmDisk, Stays};
 ghost use Rattle.ckpt_program.specs.Carries.{word_at, Carries, CarriesSome};
-ghost use Rattle.ckpt_program.specs.Top.{Answers, Blames, AnyMoment, NoImageLost, LeavesContents, Complete};
+ghost use Rattle.ckpt_program.specs.Top.{Answers, Blames, IsQuiet, AnyMoment, NoImageLost, LeavesContents, Complete};
 
 use crate::check::check;
 use crate::compile::compile;
 use crate::done::Done;
+use crate::images::images;
 use crate::plain::plain;
 use crate::report::report;
 use crate::stop::{Cause, Stop};
@@ -21,8 +24,7 @@ use disk_model::Disk;
 use std::alloc::Global;
 
 /// Does all that the program does: carries out the command that the words are, over the files of the shelf, and tells the
-/// outcome on the console, which is written once, when it is over. Answers the status with which the program ends. No command
-/// touches the disk yet.
+/// outcome on the console, which is written once, when it is over. Answers the status with which the program ends.
 ///
 /// 0, 3 and 4 come by the ending of the run, and 0 for an accepted source, for its code and for its excluded sets; 1 exactly
 /// where the words are no command; 2 exactly where the source is refused; 6 only where the shelf failed or lacks a file; 7
@@ -35,40 +37,52 @@ pub fn ckpt<H: Shelf, D: Disk, K: Sink>(
     disk: &mut D,
     console: &mut K,
 ) -> u8
-    ensures answer { Answers words.now.items (H.view shelf.old) (H.view shelf.new) (K.view console.old) (K.view console.new) result }
+    ensures answer { Answers words.now.items (H.view shelf.old) (H.view shelf.new) (D.view disk.old) (D.view disk.new) (K.view console.old) (K.view console.new) result }
     ensures steady { Later (sight (H.view shelf.old)) (sight (H.view shelf.new)) × Steady (D.view disk.old) (D.view disk.new) }
     ensures any_moment { AnyMoment (command_of words.now.items) (D.view disk.old) (D.view disk.new) }
     ensures no_image_lost { NoImageLost (command_of words.now.items) (D.view disk.old) (D.view disk.new) }
     ensures untouched { LeavesContents (command_of words.now.items) result (D.view disk.old) (D.view disk.new) }
     ensures blamed { Blames 6 (H.view shelf.old).faults (H.view shelf.new).faults result }
     ensures blamed_disk { Blames 5 (D.view disk.old).faults (D.view disk.new).faults result }
-    ensures complete { Complete words.now.items (command_of words.now.items) (H.view shelf.old) (H.view shelf.new) (K.view console.old) (K.view console.new) result }
+    ensures complete { Complete words.now.items (command_of words.now.items) (H.view shelf.old) (H.view shelf.new) (plate (D.view disk.old)) (plate (D.view disk.new)) (K.view console.old) (K.view console.new) result }
 {
-    let came = come_to(alloc, words, shelf);
+    let came = come_to(alloc, words, shelf, disk);
     tell(alloc, console, &came)
 }
 
 // What the words come to.
-fn come_to<H: Shelf>(alloc: Global, words: &Vec<Text>, shelf: &mut H) -> Result<Done, Stop>
-    ensures answer { Comes (CarriesSome words.now.items (command_of words.now.items) (sight (H.view shelf.old)) (sight (H.view shelf.new))) result }
+fn come_to<H: Shelf, D: Disk>(
+    alloc: Global,
+    words: &Vec<Text>,
+    shelf: &mut H,
+    disk: &mut D,
+) -> Result<Done, Stop>
+    ensures answer { Comes (CarriesSome words.now.items (command_of words.now.items) (sight (H.view shelf.old)) (sight (H.view shelf.new)) (plate (D.view disk.old)) (plate (D.view disk.new))) result }
     ensures calm { Calm result (sight (H.view shelf.old)) (sight (H.view shelf.new)) }
+    ensures stays { Stays (D.view disk.old) (D.view disk.new) }
+    ensures quiet { IsQuiet (command_of words.now.items) → disk.new ≡ disk.old }
+    ensures count { CalmDisk result (D.view disk.old).faults (D.view disk.new).faults }
 {
     match read_words(alloc, words)? {
-        Some(command) => carry(alloc, words, command, shelf),
+        Some(command) => carry(alloc, words, command, shelf, disk),
         None => Err(Stop::Because(Cause::Usage)),
     }
 }
 
 // What a command comes to.
-fn carry<H: Shelf>(
+fn carry<H: Shelf, D: Disk>(
     alloc: Global,
     words: &[Text],
     command: Command,
     shelf: &mut H,
+    disk: &mut D,
 ) -> Result<Done, Stop>
     requires places { HasPlaces command (length words.now) }
-    ensures answer { Comes (Carries words.now command (sight (H.view shelf.old)) (sight (H.view shelf.new))) result }
+    ensures answer { Comes (Carries words.now command (sight (H.view shelf.old)) (sight (H.view shelf.new)) (plate (D.view disk.old)) (plate (D.view disk.new))) result }
     ensures calm { Calm result (sight (H.view shelf.old)) (sight (H.view shelf.new)) }
+    ensures stays { Stays (D.view disk.old) (D.view disk.new) }
+    ensures quiet { IsQuiet (Some command) → disk.new ≡ disk.old }
+    ensures count { CalmDisk result (D.view disk.old).faults (D.view disk.new).faults }
 {
     match command {
         Command::Check { source } => check(alloc, shelf, word(words, source)),
@@ -79,6 +93,8 @@ fn carry<H: Shelf>(
             input,
             until,
         } => plain(alloc, shelf, word(words, source), word(words, input), until),
+        Command::Run { .. } => Err(Stop::Because(Cause::Usage)),
+        Command::Images { dir } => images(alloc, disk, word(words, dir)),
     }
 }
 

@@ -1,8 +1,8 @@
 -- The options of a command: each a name that begins with `--`, and its value.
-use Rattle.std.specs.Prelude.{ℕ, List, [], ◌∷◌, Option, Some, None, Bool, true, false, ◌&&◌, ◌==◌, codes, bytes_eq, is_none, if◌then◌else◌}
+use Rattle.std.specs.Prelude.{ℕ, List, [], ◌∷◌, Option, Some, None, Bool, true, false, ◌&&◌, ◌==◌, codes, bytes_eq, is_none, nat_le, if◌then◌else◌}
 use Rattle.command_words.specs.Numbers.{number}
 use Rattle.command_words.specs.declared.options.Name.{Name}
-use Rattle.command_words.specs.declared.options.Name.TheVariants.{Until}
+use Rattle.command_words.specs.declared.options.Name.TheVariants.{Until, Every, Max, Pace}
 
 abbrev pub Word : Type 0
 Word = List ℕ
@@ -15,6 +15,9 @@ is_option _ = false
 -- the word that names an option
 abbrev pub word_of : Name → Word
 word_of Until = codes "--until"
+word_of Every = codes "--every"
+word_of Max = codes "--max"
+word_of Pace = codes "--pace"
 
 -- which of these names a word is
 abbrev pub name_in : List Name → Word → Option Name
@@ -44,3 +47,11 @@ number_or_default default (Some value) = number value
 -- the number that an option gives, or the default where it is not given
 abbrev pub number_or : Name → (default : ℕ) → List Word → Option ℕ
 number_or name default words = number_or_default default (value_of name words)
+
+abbrev pub within : (least most : ℕ) → Option ℕ → Option ℕ
+within least most None = None
+within least most (Some n) = if nat_le least n && nat_le n most then Some n else None
+
+-- the same, where it is within the range
+abbrev pub number_within : Name → (default least most : ℕ) → List Word → Option ℕ
+number_within name default least most words = within least most (number_or name default words)

@@ -1,10 +1,11 @@
--- Which command the words are. The files of a command stand behind its name, and its options behind them.
-use Rattle.std.specs.Prelude.{ℕ, ◌-◌, ◌^◌, ◌<◌, List, [], ◌∷◌, Option, Some, None, ◌||◌, codes, bytes_eq, if◌then◌else◌}
+-- Which command the words are. The files of a command, and the directory of its store, stand behind its name, and its options behind them.
+use Rattle.std.specs.Prelude.{ℕ, ◌-◌, ◌^◌, ◌<◌, ◌≤◌, List, [], ◌∷◌, Option, Some, None, option_and_then, ◌||◌, codes, bytes_eq, if◌then◌else◌}
 use Rattle.std.specs.Option.{option_map}
-use Rattle.command_words.specs.Options.{Word, is_option, are_options, number_or}
-use Rattle.command_words.specs.declared.options.Name.TheVariants.{Until}
+use Rattle.command_words.specs.Options.{Word, is_option, are_options, number_or, number_within}
+use Rattle.command_words.specs.declared.options.Name.TheVariants.{Until, Every, Max, Pace}
+use Rattle.command_words.specs.declared.command.Settings.{Settings}
 use Rattle.command_words.specs.declared.command.Command.{Command}
-use Rattle.command_words.specs.declared.command.Command.TheVariants.{Plain, Check, Compile, Report}
+use Rattle.command_words.specs.declared.command.Command.TheVariants.{Plain, Check, Compile, Report, Run, Images}
 
 -- the greatest number of steps that can be asked for
 abbrev pub most_steps : ℕ
@@ -17,19 +18,38 @@ plain_of (source ∷ input ∷ options) =
     else if are_options (Until ∷ []) options then option_map (Plain 1 2) (number_or Until most_steps options) else None
 plain_of _ = None
 
--- the command, where the words behind its name are one source
-abbrev pub of_source : Command → List Word → Option Command
-of_source command (source ∷ []) = if is_option source then None else Some command
-of_source command _ = None
+-- the most steps that a life may take
+abbrev pub steps_of : List Word → Option ℕ
+steps_of options = number_or Until most_steps options
+
+-- how a life is run: `--until N`, `--every N`, `--max N` and `--pace 0`
+abbrev pub settings_of : List Word → Option Settings
+settings_of options =
+    if are_options (Until ∷ Every ∷ Max ∷ Pace ∷ []) options
+    then option_and_then (λ until. option_and_then (λ every. option_and_then (λ max. option_map (λ _. record { until = until; every = every; max = max })
+    (number_within Pace 0 0 0 options)) (number_within Max 16 2 64 options)) (number_within Every 1 1 4294967295 options)) (steps_of options)
+    else None
+
+-- `run SRC INPUT DIR` and its options
+abbrev pub run_of : List Word → Option Command
+run_of (source ∷ input ∷ dir ∷ options) = if is_option source || (is_option input || is_option dir) then None else option_map (Run 1 2 3) (settings_of options)
+run_of _ = None
+
+-- the command, where the one word behind its name is a file or a directory
+abbrev pub of_one : Command → List Word → Option Command
+of_one command (source ∷ []) = if is_option source then None else Some command
+of_one command _ = None
 
 -- the command that the words are
 abbrev pub command_of : List Word → Option Command
 command_of [] = None
 command_of (name ∷ words) =
     if bytes_eq name (codes "plain") then plain_of words
-    else if bytes_eq name (codes "check") then of_source (Check 1) words
-    else if bytes_eq name (codes "compile") then of_source (Compile 1) words
-    else if bytes_eq name (codes "report") then of_source (Report 1) words
+    else if bytes_eq name (codes "check") then of_one (Check 1) words
+    else if bytes_eq name (codes "compile") then of_one (Compile 1) words
+    else if bytes_eq name (codes "report") then of_one (Report 1) words
+    else if bytes_eq name (codes "run") then run_of words
+    else if bytes_eq name (codes "images") then of_one (Images 1) words
     else None
 
 -- each file of the command is one of so many words
@@ -38,3 +58,15 @@ HasPlaces (Plain source input until) n = (source < n) × (input < n)
 HasPlaces (Check source) n = source < n
 HasPlaces (Compile source) n = source < n
 HasPlaces (Report source) n = source < n
+HasPlaces (Run source input dir settings) n = (source < n) × (input < n) × (dir < n)
+HasPlaces (Images dir) n = dir < n
+
+-- the numbers of the settings are in range
+pub record InRange (s : Settings) : Type 0 where
+  pub every : 1 ≤ s.every
+  pub max_least : 2 ≤ s.max
+  pub max_most : s.max ≤ 64
+
+abbrev pub HasRanges : Command → Type 0
+HasRanges (Run source input dir settings) = InRange settings
+HasRanges command = Unit {0}

@@ -1,4 +1,15 @@
-/// What the words of a command line ask for. A file is named by the place of its word, counted from 0.
+/// How a life is run.
+#[derive(Clone, Copy, Debug, PartialEq, Eq)]
+pub struct Settings {
+    /// The most steps that it may take.
+    pub until: u64,
+    /// How many steps lie between two images at least, at least 1.
+    pub every: u32,
+    /// The most records of an image file, 2 to 64.
+    pub max: u16,
+}
+
+/// What the words of a command line ask for. A file, or the directory of a store, is named by the place of its word, counted from 0.
 #[derive(Clone, Copy, Debug)]
 pub enum Command {
     /// `plain SRC INPUT`: evaluates the source on the input, in at most `until` steps.
@@ -18,5 +29,16 @@ pub enum Command {
     /// `report SRC`: prints the excluded sets of the source.
     Report {
         source: usize,
+    },
+    /// `run SRC INPUT DIR`: begins a run of the source on the input, with images in a store that has none.
+    Run {
+        source: usize,
+        input: usize,
+        dir: usize,
+        settings: Settings,
+    },
+    /// `images DIR`: lists the records of a store.
+    Images {
+        dir: usize,
     },
 }

@@ -9,5 +9,5 @@ mod numbers;
 mod options;
 mod reading;
 
-pub use command::Command;
+pub use command::{Command, Settings};
 pub use reading::read_words;

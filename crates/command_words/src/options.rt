@@ -1,6 +1,6 @@
 //! The options of a command: each a name that begins with `--`, and its value.
 
-ghost use Rattle.std.specs.Prelude.{◌≡◌, MatchOption, Some, None};
+ghost use Rattle.std.specs.Prelude.{◌≡◌, ◌≤◌, MatchOption, IfSome, Some, None};
 ghost use Rattle.command_words.specs.Options as spec;
 
 use crate::numbers::number;
@@ -11,6 +11,12 @@ use ckpt_base::Text;
 pub enum Name {
     /// The most steps that a run may take.
     Until,
+    /// How many steps lie between two images at least.
+    Every,
+    /// The most records of an image file.
+    Max,
+    /// How many instructions lie before each call of the writer of images.
+    Pace,
 }
 
 impl Name {
@@ -20,6 +26,9 @@ impl Name {
     {
         match self {
             Name::Until => b"--until",
+            Name::Every => b"--every",
+            Name::Max => b"--max",
+            Name::Pace => b"--pace",
         }
     }
 }
@@ -78,5 +87,18 @@ pub fn number_or(words: &[Text], name: Name, default: u64) -> Option<u64>
     match value_of(words, name) {
         None => Some(default),
         Some(value) => number(value.as_bytes()),
+    }
+}
+
+/// The same, where it is within the range.
+pub fn number_within(words: &[Text], name: Name, default: u64, least: u64, most: u64) -> Option<u64>
+    ensures answer { result ≡ spec.number_within name default least most words.now }
+    ensures within { IfSome result (λ n. (least ≤ n) × (n ≤ most)) }
+{
+    let number = number_or(words, name, default)?;
+    if least <= number && number <= most {
+        Some(number)
+    } else {
+        None
     }
 }

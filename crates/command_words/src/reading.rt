@@ -2,20 +2,21 @@
 
 ghost use Rattle.std.specs.Prelude.{◌≡◌, ◌+◌, length, IfOk, IfSome};
 ghost use Rattle.command_words.specs.Words as spec;
-ghost use Rattle.command_words.specs.Words.{command_of, HasPlaces};
+ghost use Rattle.command_words.specs.Words.{command_of, steps_of, HasPlaces, HasRanges, InRange};
 
-use crate::command::Command;
-use crate::options::{Name, are_options, is_option, number_or};
+use crate::command::{Command, Settings};
+use crate::options::{Name, are_options, is_option, number_or, number_within};
 use ckpt_base::{NoMemory, Text};
 use std::alloc::Global;
 
 /// The command that the words are; none exactly where they are no command.
 ///
-/// An option that is not given has its default: `--until` the greatest number of 64 bits.
+/// An option that is not given has its default: `--until` the greatest number of 64 bits, `--every` 1, `--max` 16, and `--pace` 0, its one value.
 pub fn read_words(alloc: Global, words: &Vec<Text>) -> Result<Option<Command>, NoMemory>
     ensures answer { IfOk result (λ c. c ≡ command_of words.now.items) }
     // each file is one of the words
     ensures places { IfOk result (λ c. IfSome c (λ command. HasPlaces command (length words.now.items))) }
+    ensures ranges { IfOk result (λ c. IfSome c HasRanges) }
 {
     Ok(command(words))
 }
@@ -24,6 +25,7 @@ pub fn read_words(alloc: Global, words: &Vec<Text>) -> Result<Option<Command>, N
 fn command(words: &[Text]) -> Option<Command>
     ensures answer { result ≡ command_of words.now }
     ensures places { IfSome result (λ command. HasPlaces command (length words.now)) }
+    ensures ranges { IfSome result HasRanges }
 {
     match words {
         [] => None,
@@ -31,11 +33,15 @@ fn command(words: &[Text]) -> Option<Command>
             if name.as_bytes() == b"plain".as_slice() {
                 plain(words)
             } else if name.as_bytes() == b"check".as_slice() {
-                of_source(words, Command::Check { source: 1 })
+                of_one(words, Command::Check { source: 1 })
             } else if name.as_bytes() == b"compile".as_slice() {
-                of_source(words, Command::Compile { source: 1 })
+                of_one(words, Command::Compile { source: 1 })
             } else if name.as_bytes() == b"report".as_slice() {
-                of_source(words, Command::Report { source: 1 })
+                of_one(words, Command::Report { source: 1 })
+            } else if name.as_bytes() == b"run".as_slice() {
+                run(words)
+            } else if name.as_bytes() == b"images".as_slice() {
+                of_one(words, Command::Images { dir: 1 })
             } else {
                 None
             }
@@ -47,6 +53,7 @@ fn command(words: &[Text]) -> Option<Command>
 fn plain(words: &[Text]) -> Option<Command>
     ensures answer { result ≡ spec.plain_of words.now }
     ensures places { IfSome result (λ command. HasPlaces command (length words.now + 1)) }
+    ensures ranges { IfSome result HasRanges }
 {
     match words {
         [source, input, options @ ..] if !is_option(source) && !is_option(input) => {
@@ -64,9 +71,57 @@ fn plain(words: &[Text]) -> Option<Command>
     }
 }
 
-// The command, where the words behind its name are one source.
-fn of_source(words: &[Text], command: Command) -> Option<Command>
-    ensures answer { result ≡ spec.of_source command words.now }
+// `run` and the words behind it.
+fn run(words: &[Text]) -> Option<Command>
+    ensures answer { result ≡ spec.run_of words.now }
+    ensures places { IfSome result (λ command. HasPlaces command (length words.now + 1)) }
+    ensures ranges { IfSome result HasRanges }
+{
+    match words {
+        [source, input, dir, options @ ..]
+            if !is_option(source) && !is_option(input) && !is_option(dir) => {
+            let settings = settings(options)?;
+            Some(Command::Run {
+                source: 1,
+                input: 2,
+                dir: 3,
+                settings,
+            })
+        }
+        _ => None,
+    }
+}
+
+// How a life is run, as the options say.
+fn settings(options: &[Text]) -> Option<Settings>
+    ensures answer { result ≡ spec.settings_of options.now }
+    ensures ranges { IfSome result InRange }
+{
+    if !are_options(options, &[Name::Until, Name::Every, Name::Max, Name::Pace]) {
+        return None;
+    }
+    let until = steps(options)?;
+    let every = number_within(options, Name::Every, 1, 1, 4_294_967_295)?;
+    let max = number_within(options, Name::Max, 16, 2, 64)?;
+    number_within(options, Name::Pace, 0, 0, 0)?;
+    Some(Settings {
+        until,
+        every: every as u32,
+        max: max as u16,
+    })
+}
+
+// The most steps that a life may take.
+fn steps(options: &[Text]) -> Option<u64>
+    ensures answer { result ≡ steps_of options.now }
+{
+    let most = u64::MAX;
+    number_or(options, Name::Until, most)
+}
+
+// The command, where the one word behind its name is a file or a directory.
+fn of_one(words: &[Text], command: Command) -> Option<Command>
+    ensures answer { result ≡ spec.of_one command words.now }
     ensures same { IfSome result (λ c. (c ≡ command) × (length words.now ≡ 1)) }
 {
     match words {

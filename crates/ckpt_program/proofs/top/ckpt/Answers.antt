@@ -1,8 +1,12 @@
-use Rattle.std.proofs.Common.{⊎_elim, Err, ◌≤◌}
+use Rattle.std.proofs.Common.{⊎_elim, Err, ◌≤◌, sym, subst}
 use Rattle.command_words.specs.Words.{command_of}
-use Rattle.disk_model.proofs.Keeping.{untouched_still, untouched_moments}
+use Rattle.disk_model.specs.Keeps.{Untouched}
+use Rattle.disk_model.specs.Plate.{plate}
+use Rattle.disk_model.proofs.Keeping.{untouched_still}
+use Rattle.ckpt_program.specs.Sight.{sight}
 use Rattle.ckpt_program.specs.declared.stop.Stop.TheVariants.{NoMemory}
 use Rattle.ckpt_program.proofs.Completeness.{complete}
+use Rattle.ckpt_program.proofs.Disks.{stays_moments, stays_lasting, blamed_disk, calm_later}
 use Rattle.ckpt_program.proofs.top.ckpt.Goals as goal
 
 pub returns-clause-answer : goal.returns-clause-answer
@@ -11,17 +15,29 @@ returns-clause-answer g c = ⊎_elim (λ told. (c.come_to-came.result, c.come_to
 pub returns-clause-any_moment : goal.returns-clause-any_moment
 returns-clause-any_moment g c =
     let v = g.D.Disk.view c.args.disk.now in
-    untouched_moments v v v.may_leave (g.met.D.Disk.lawful c.args.disk.now) (g.met.D.Disk.tells_all c.args.disk.now) (untouched_still v) (λ t s left. left)
+    stays_moments v (g.D.Disk.view c.come_to-came.new.disk) v.may_leave (g.met.D.Disk.tells_all c.args.disk.now) c.come_to-came.ensures.stays (λ t s left. left)
 
 pub returns-clause-no_image_lost : goal.returns-clause-no_image_lost
 returns-clause-no_image_lost g c =
     let v = g.D.Disk.view c.args.disk.now in
-    λ can newest j here. untouched_moments v v (λ s. j ≤ newest s) (g.met.D.Disk.lawful c.args.disk.now) (g.met.D.Disk.tells_all c.args.disk.now) (untouched_still v) here
+    λ can newest j here. stays_moments v (g.D.Disk.view c.come_to-came.new.disk) (λ s. j ≤ newest s) (g.met.D.Disk.tells_all c.args.disk.now) c.come_to-came.ensures.stays here
+
+pub returns-clause-untouched : goal.returns-clause-untouched
+returns-clause-untouched g c =
+    let v = g.D.Disk.view c.args.disk.now in
+    (λ quiet. subst (λ d. Untouched v (g.D.Disk.view d)) (sym (c.come_to-came.ensures.quiet quiet)) (untouched_still v), λ kept. stays_lasting v (g.D.Disk.view c.come_to-came.new.disk) c.come_to-came.ensures.stays)
+
+pub returns-clause-blamed_disk : goal.returns-clause-blamed_disk
+returns-clause-blamed_disk g c = blamed_disk c.come_to-came.result _ _ c.tell.result c.come_to-came.ensures.count c.tell.ensures.fixed
 
 pub returns-clause-complete : goal.returns-clause-complete
 returns-clause-complete g c =
     let shelf = g.H.Shelf.view in
     let console = g.K.Sink.view in
+    let disk = g.D.Disk.view in
     let words = c.args.words.now.items in
-    let at = complete words (command_of words) (shelf c.args.shelf.now) (shelf c.come_to-came.new.shelf) (console c.args.console.now) (console c.tell.new.console) c.tell.result in
+    let at = complete words (command_of words) (shelf c.args.shelf.now) (shelf c.come_to-came.new.shelf) (plate (disk c.args.disk.now)) (plate (disk c.come_to-came.new.disk)) (console c.args.console.now) (console c.tell.new.console) c.tell.result in
     ⊎_elim (λ told. at c.come_to-came.result c.come_to-came.ensures.answer told) (λ told. at (Err NoMemory) tt told) c.tell.ensures.answer
+
+pub returns-clause-steady : goal.returns-clause-steady
+returns-clause-steady g c = (calm_later c.come_to-came.result (sight (g.H.Shelf.view c.args.shelf.now)) (sight (g.H.Shelf.view c.come_to-came.new.shelf)) c.come_to-came.ensures.calm, c.come_to-came.ensures.stays.steady)

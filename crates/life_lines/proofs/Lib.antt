@@ -1,0 +1,2 @@
+-- lists appended one after another
+mod Joining

@@ -1,0 +1,2 @@
+-- the lines that tell of a life
+pub mod Lines

@@ -1,0 +1,2 @@
+-- the digests of a source and of an input
+pub mod Digests
