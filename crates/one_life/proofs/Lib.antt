@@ -1,0 +1,4 @@
+-- calls on a life, one after another
+mod DriveLaws
+-- a life that was opened, driven and finished
+mod LiveLaws

@@ -1,0 +1,2 @@
+-- what a life comes to
+pub mod Ends
