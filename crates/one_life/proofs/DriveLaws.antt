@@ -14,6 +14,7 @@ use Rattle.ckpt_runner.specs.Lives.{Lives, StopsAt, run_now}
 use Rattle.ckpt_runner.specs.Good.{IsGood}
 use Rattle.ckpt_runner.specs.Keeps.{Kept}
 use Rattle.ckpt_runner.specs.Calls.{FitsDisk, GoesOn, GoesTo}
+use Rattle.ckpt_runner.specs.Standing.{KeepsStanding, KeepsImages}
 
 pub on_first : (o : Origin) (es : List Event) (a : LifeView) (u : View) → Lives o es a → GoesOn o es a u a u
 on_first o es a u lives = record {
@@ -40,6 +41,8 @@ pub record Driven (a : LifeView) (u : View) (b : LifeView) (v : View) (bound unt
   pub within : until ≤ bound
   pub compiled : b.compiled ≡ a.compiled
   pub goes : (o : Origin) (es : List Event) → Lives o es a → GoesOn o es a u b v
+  pub moments : KeepsStanding a u v
+  pub later : KeepsImages u v
   pub steps : counted + a.machine.state.ticks ≡ first + b.machine.state.ticks
   pub faults : v.faults ≡ u.faults
   pub steady : Steady u v

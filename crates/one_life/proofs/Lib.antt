@@ -2,3 +2,5 @@
 mod DriveLaws
 -- a life that was opened, driven and finished
 mod LiveLaws
+-- a life whose store stood for its source
+mod SourceLaws

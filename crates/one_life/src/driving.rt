@@ -3,6 +3,7 @@ ghost use Rattle.std.specs.Prelude.{◌≡◌, ◌≤◌, ◌+◌, true, false, 
 ghost use Rattle.ckpt_base.specs.Faults.{Rose};
 ghost use Rattle.disk_model.specs.View.{Steady};
 ghost use Rattle.ckpt_runner.specs.Calls.{FitsDisk};
+ghost use Rattle.ckpt_runner.specs.Standing.{KeepsImages, KeepsStanding};
 ghost use Rattle.one_life.specs.Ends.{GoesToBound};
 
 use ckpt_base::{Ending, Failed};
@@ -22,6 +23,9 @@ pub fn run_to<'a, D: Disk, L: Ledger>(
     requires bound { life.old.machine.state.ticks ≤ bound }
     requires fits { FitsDisk life.old (D.view disk.old) }
     ensures goes { IfOk result (λ e. GoesToBound bound e life.old (D.view disk.old) life.new (D.view disk.new)) }
+    // A crash at any moment leaves a store that stands for each source of the life, and no image is lost.
+    ensures moments { KeepsStanding life.old (D.view disk.old) (D.view disk.new) }
+    ensures later { KeepsImages (D.view disk.old) (D.view disk.new) }
     ensures well { OnOk result (life.new.failed ≡ false) }
     ensures steps { OnOk result (steps.new + life.old.machine.state.ticks ≡ steps.old + life.new.machine.state.ticks) }
     ensures failed { OnErr result (Rose (D.view disk.old).faults (D.view disk.new).faults) }

@@ -7,6 +7,8 @@ ghost use Rattle.ckpt_runner.specs.Lives.{Lives};
 ghost use Rattle.ckpt_runner.specs.Calls.{FitsDisk};
 ghost use Rattle.ckpt_runner.specs.Opening.{Refuses, Leaves};
 ghost use Rattle.ckpt_runner.specs.Arguments.{given_by};
+ghost use Rattle.ckpt_runner.specs.Standing.{KeepsImages, KeepsStanding};
+ghost use Rattle.one_life.specs.AsSource.{LivesStanding, LivesAsSource, EndsLikeSources};
 ghost use Rattle.one_life.specs.Ends.{LivesOn, Ran, RanWhereTold};
 
 use crate::driving::run_to;
@@ -46,6 +48,11 @@ pub fn live<D: Disk>(
     requires short { length input.now ≤ 16777216 }
     ensures ran { IfOk result (λ l. Ran (given_by compiled.now marks.now input.now how.entry) l) }
     ensures told { IfOk result (λ l. RanWhereTold (given_by compiled.now marks.now input.now how.entry) (D.view disk.old) l (D.view disk.new)) }
+    // On a store that stands for the source of what was given: a crash at any moment leaves one that does, and the life comes to what the source's run is.
+    ensures moments { LivesStanding (given_by compiled.now marks.now input.now how.entry) (D.view disk.old) (D.view disk.new) }
+    ensures as_source { IfOk result (λ l. LivesAsSource (given_by compiled.now marks.now input.now how.entry) (D.view disk.old) l (D.view disk.new)) }
+    // On every store, no image is lost at any moment.
+    ensures later { KeepsImages (D.view disk.old) (D.view disk.new) }
     ensures err { IfErr result (λ e. IsTrue (D.view disk.old).tells → Refuses e (given_by compiled.now marks.now input.now how.entry) (D.view disk.old).seen) }
     ensures leaves { IfErr result (λ e. Leaves e (D.view disk.old) (D.view disk.new)) }
     ensures untouched { IfErr result (λ e. e ≡ OpenFault.Memory → disk.new ≡ disk.old) }
@@ -74,6 +81,9 @@ fn live_on<D: Disk, L: Ledger>(
     requires some { 0 < blank.parts }
     ensures started { IfOk result (λ l. l.started ≡ life.old.started) }
     ensures goes { IfOk result (λ l. (o : Origin) → Lives o [] life.old → LivesOn o bound life.old (D.view disk.old) l (D.view disk.new)) }
+    ensures ends { IfOk result (λ l. EndsLikeSources bound life.old (D.view disk.old) l (D.view disk.new)) }
+    ensures moments { KeepsStanding life.old (D.view disk.old) (D.view disk.new) }
+    ensures later { KeepsImages (D.view disk.old) (D.view disk.new) }
     ensures failed { OnErr result (Rose (D.view disk.old).faults (D.view disk.new).faults) }
     ensures counts { OnOk result ((D.view disk.new).faults ≡ (D.view disk.old).faults) }
     ensures steady { Steady (D.view disk.old) (D.view disk.new) }

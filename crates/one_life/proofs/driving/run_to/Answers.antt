@@ -1,6 +1,7 @@
-use Rattle.std.proofs.Common.{rules, arith, refl, sym, ◌∙◌, subst, inl, inr, ◌≤◌}
+use Rattle.std.proofs.Common.{rules, arith, refl, sym, [], ◌∙◌, subst, inl, inr, ◌≤◌}
 use Rattle.disk_model.proofs.Calls.{steady_twice}
 use Rattle.ckpt_runner.specs.Calls.{GoesTo}
+use Rattle.ckpt_runner.proofs.StandingThen.{standing_first, standing_then, images_first, images_after}
 use Rattle.one_life.proofs.DriveLaws.{on_first, on_then, to_then, over_to, fits_on}
 use Rattle.one_life.proofs.driving.run_to.Goals as goal
 
@@ -14,6 +15,8 @@ calls-init g c =
       within = subst (λ n. n ≤ c.args.bound) (sym c.ticks-until.ensures.answer) c.requires.bound;
       compiled = refl;
       goes = λ o es. on_first o es a u;
+      moments = standing_first [] a u (g.met.D.Disk.lawful c.args.disk.now) (g.met.D.Disk.tells_all c.args.disk.now);
+      later = images_first u (g.met.D.Disk.lawful c.args.disk.now) (g.met.D.Disk.tells_all c.args.disk.now);
       steps = refl;
       faults = refl;
       steady = record { tells = refl; tells_past = refl; faults = omega arith };
@@ -47,6 +50,8 @@ calls-preserved g c =
       within = omega (arith, h.within, c.if-until-bound.false);
       compiled = c.go.ensures.same ∙ h.compiled;
       goes = λ o es lives. let on = h.goes o es lives in on_then o es a b d u v w h.steady.tells on (c.in_ok-ending.ensures.goes o _ on.lives).on;
+      moments = standing_then a b u v w (g.met.D.Disk.tells_all c.args.disk.now) h.steady.tells h.goes h.moments c.go.ensures.moments;
+      later = images_after u v w (g.met.D.Disk.tells_all c.args.disk.now) h.steady.tells h.later c.go.ensures.later;
       steps = omega (arith, h.steps, c.in_ok-ending.ensures.steps);
       faults = c.in_ok-ending.ensures.counts ∙ h.faults;
       steady = steady_twice u v w h.steady c.go.ensures.steady;
@@ -66,9 +71,31 @@ returns-in_default g c =
           let on = h.goes o es lives in
           over_to o es c.calls.until c.args.bound c.in_ok-ending.ending a d u w c.in_default.not-Going h.within
           (to_then o es c.calls.until c.in_ok-ending.ending a b d u v w h.steady.tells on (c.in_ok-ending.ensures.goes o _ on.lives));
+      moments = standing_then a b u v w (g.met.D.Disk.tells_all c.args.disk.now) h.steady.tells h.goes h.moments c.go.ensures.moments;
+      later = images_after u v w (g.met.D.Disk.tells_all c.args.disk.now) h.steady.tells h.later c.go.ensures.later;
       well = c.in_ok-ending.ensures.well;
       steps = omega (arith, h.steps, c.in_ok-ending.ensures.steps);
       failed = search rules;
       counts = c.in_ok-ending.ensures.counts ∙ h.faults;
       steady = steady_twice u v w h.steady c.go.ensures.steady;
     }
+
+pub returns-in_err-ending-clause-moments : goal.returns-in_err-ending-clause-moments
+returns-in_err-ending-clause-moments g c =
+    let h = c.calls.invariant in
+    standing_then c.args.life.now c.calls.life (g.D.Disk.view c.args.disk.now) (g.D.Disk.view c.calls.disk) (g.D.Disk.view c.go.new.disk) (g.met.D.Disk.tells_all c.args.disk.now) h.steady.tells h.goes h.moments c.go.ensures.moments
+
+pub returns-in_err-ending-clause-later : goal.returns-in_err-ending-clause-later
+returns-in_err-ending-clause-later g c =
+    let h = c.calls.invariant in
+    images_after (g.D.Disk.view c.args.disk.now) (g.D.Disk.view c.calls.disk) (g.D.Disk.view c.go.new.disk) (g.met.D.Disk.tells_all c.args.disk.now) h.steady.tells h.later c.go.ensures.later
+
+pub returns-then-until-bound-clause-moments : goal.returns-then-until-bound-clause-moments
+returns-then-until-bound-clause-moments g c =
+    let h = c.calls.invariant in
+    standing_then c.args.life.now c.calls.life (g.D.Disk.view c.args.disk.now) (g.D.Disk.view c.calls.disk) (g.D.Disk.view c.go.new.disk) (g.met.D.Disk.tells_all c.args.disk.now) h.steady.tells h.goes h.moments c.go.ensures.moments
+
+pub returns-then-until-bound-clause-later : goal.returns-then-until-bound-clause-later
+returns-then-until-bound-clause-later g c =
+    let h = c.calls.invariant in
+    images_after (g.D.Disk.view c.args.disk.now) (g.D.Disk.view c.calls.disk) (g.D.Disk.view c.go.new.disk) (g.met.D.Disk.tells_all c.args.disk.now) h.steady.tells h.later c.go.ensures.later
