@@ -52,6 +52,9 @@ blamed_disk (Err (Because (cause.Refused r))) old new result calm told = λ rose
 blamed_disk (Err (Because (cause.TooLarge d))) old new result calm told = λ rose below. absurd (not_risen old new calm rose below)
 blamed_disk (Err (Because (cause.Damaged file place))) old new result calm told = λ rose below. absurd (not_risen old new calm rose below)
 blamed_disk (Err (Because (cause.Occupied image step))) old new result calm told = λ rose below. absurd (not_risen old new calm rose below)
+blamed_disk (Err (Because (cause.OtherSource kept given))) old new result calm told = λ rose below. absurd (not_risen old new calm rose below)
+blamed_disk (Err (Because (cause.OtherInput kept given))) old new result calm told = λ rose below. absurd (not_risen old new calm rose below)
+blamed_disk (Err (Because (cause.Behind bound step))) old new result calm told = λ rose below. absurd (not_risen old new calm rose below)
 
 -- ---- calls that do not use the disk, or the shelf
 
@@ -65,6 +68,9 @@ calm_disk_still (Err (Because cause.ShelfFault)) n = refl
 calm_disk_still (Err (Because (cause.TooLarge d))) n = refl
 calm_disk_still (Err (Because (cause.Damaged file place))) n = refl
 calm_disk_still (Err (Because (cause.Occupied image step))) n = refl
+calm_disk_still (Err (Because (cause.OtherSource kept given))) n = refl
+calm_disk_still (Err (Because (cause.OtherInput kept given))) n = refl
+calm_disk_still (Err (Because (cause.Behind bound step))) n = refl
 
 pub calm_still : {A : Type 0} (r : Result A Stop) (s : Sight) → Calm r s s
 calm_still (Ok x) s = refl
@@ -76,6 +82,9 @@ calm_still (Err (Because cause.ShelfFault)) s = record { tells = refl; files = r
 calm_still (Err (Because (cause.TooLarge d))) s = refl
 calm_still (Err (Because (cause.Damaged file place))) s = refl
 calm_still (Err (Because (cause.Occupied image step))) s = refl
+calm_still (Err (Because (cause.OtherSource kept given))) s = refl
+calm_still (Err (Because (cause.OtherInput kept given))) s = refl
+calm_still (Err (Because (cause.Behind bound step))) s = refl
 
 later_from : (u v : Sight) → v ≡ u → Later u v
 later_from u v is = subst (λ (w : Sight). Later u w) (sym is) (record { tells = refl; files = refl; faults = omega arith })
@@ -90,3 +99,6 @@ calm_later (Err (Because cause.ShelfFault)) u v calm = calm
 calm_later (Err (Because (cause.TooLarge d))) u v calm = later_from u v calm
 calm_later (Err (Because (cause.Damaged file place))) u v calm = later_from u v calm
 calm_later (Err (Because (cause.Occupied image step))) u v calm = later_from u v calm
+calm_later (Err (Because (cause.OtherSource kept given))) u v calm = later_from u v calm
+calm_later (Err (Because (cause.OtherInput kept given))) u v calm = later_from u v calm
+calm_later (Err (Because (cause.Behind bound step))) u v calm = later_from u v calm

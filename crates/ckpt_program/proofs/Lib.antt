@@ -7,5 +7,10 @@ mod Fitted
 mod Joining
 mod Disks
 mod Looking
+mod Living
+mod Running
+mod Lasting
 mod SourceRead
+mod ShelfReady
+mod StoreReady
 mod Completeness

@@ -1,5 +1,6 @@
 -- A source that was read, and then accepted or not.
-use Rattle.std.proofs.Common.{◌⊎◌, inr, ℕ, List, Result, Ok, Err}
+use Rattle.std.proofs.Common.{◌≡◌, sym, ◌∙◌, subst, ◌⊎◌, inr, ℕ, List, Result, Ok, Err}
+use Rattle.c_types.specs.Check.{checked}
 use Rattle.c_tree.specs.declared.resolved.Resolved.{Resolved}
 use Rattle.ckpt_program.specs.Sight.{Sight}
 use Rattle.ckpt_program.specs.Fetched.{limit_of, IsWhole}
@@ -23,3 +24,10 @@ pub source_read : (name : List ℕ) (old new : Sight) (text : List ℕ) (r : Res
 source_read name old new text (Ok tree) whole came = has_source name old text tree whole came
 source_read name old new text (Err NoMemory) whole came = tt
 source_read name old new text (Err (Because c)) whole came = fails_source name old new text c whole came
+
+-- a text has one accepted tree
+pub one_tree : (text : List ℕ) (s t : Resolved) → IsAccepted text s → IsAccepted text t → s ≡ t
+one_tree text s t a b =
+    let same = a.1.only b.0 b.1.spelled in
+    let is_s : checked b.0 ≡ Ok s = subst (λ p. checked p ≡ Ok s) same a.2 in
+    cc (sym is_s ∙ b.2)

@@ -1,11 +1,13 @@
 -- What the words come to: a row each.
 use Rattle.std.specs.Prelude.{◌≡◌, ℕ, List, [], Option, Some, None, Ok, Err, slice_index_or}
 use Rattle.command_words.specs.declared.command.Command.{Command}
-use Rattle.command_words.specs.declared.command.Command.TheVariants.{Plain, Check, Compile, Report, Run, Images}
+use Rattle.command_words.specs.declared.command.Command.TheVariants.{Plain, Check, Compile, Report, Run, Restart, Images}
 use Rattle.disk_model.specs.Plate.{Plate}
 use Rattle.ckpt_program.specs.Sight.{Sight}
 use Rattle.ckpt_program.specs.Stage.{Stage}
 use Rattle.ckpt_program.specs.Rows as row
+use Rattle.ckpt_program.specs.LifeRow as life
+use Rattle.ckpt_program.specs.LifeStages.{to_begin, to_go_on}
 use Rattle.ckpt_program.specs.declared.done.Done.{Done}
 use Rattle.ckpt_program.specs.declared.stop.Cause.TheVariants as cause
 
@@ -23,7 +25,8 @@ Carries words (Check source) old new disk disk_new = row.Check (word_at words so
 Carries words (Compile source) old new disk disk_new = row.Compile (word_at words source) old new
 Carries words (Report source) old new disk disk_new = row.Report (word_at words source) old new
 Carries words (Plain source input until) old new disk disk_new = row.Plain (word_at words source) (word_at words input) until old new
-Carries words (Run source input dir settings) old new disk disk_new = NoCommand
+Carries words (Run source input dir settings) old new disk disk_new = life.Lives (word_at words source) (word_at words input) (to_begin settings) old new disk disk_new
+Carries words (Restart source input dir settings fill) old new disk disk_new = life.Lives (word_at words source) (word_at words input) (to_go_on settings fill) old new disk disk_new
 Carries words (Images dir) old new disk disk_new = row.Images disk disk_new
 
 abbrev pub CarriesSome : (words : List (List ℕ)) → Option Command → (old new : Sight) (disk disk_new : Plate) → Stage Done

@@ -12,17 +12,23 @@ pub mod Accepted
 pub mod Stages
 -- the stages that use a store
 pub mod DiskStages
+-- the stages of a life
+pub mod LifeStages
 -- what `compile` prints
 pub mod Listed
 -- what `report` prints
 pub mod Report
 -- what each command comes to
 pub mod Rows
+-- what the commands that live come to
+pub mod LifeRow
 -- what the words come to
 pub mod Carries
 -- the status and the text of what a command has come to
 pub mod Texts
 -- what the console takes
 pub mod Told
+-- the main theorem
+pub mod Headline
 -- the clauses of the top call that name no outcome
 pub mod Top

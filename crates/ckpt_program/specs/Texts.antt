@@ -1,8 +1,9 @@
 -- The status and the text of what a command has come to.
-use Rattle.std.specs.Prelude.{ℕ, List, [], ◌++◌, Result, Ok, Err, codes}
+use Rattle.std.specs.Prelude.{ℕ, List, [], ◌++◌, Option, Some, None, unwrap_or, Result, Ok, Err, codes}
 use Rattle.std.specs.Fmt.{decimal}
 use Rattle.disk_model.specs.declared.disk_file.DiskFile.{DiskFile}
 use Rattle.disk_model.specs.Store.{number_of}
+use Rattle.hex.specs.Hex.{encode_lower}
 use Rattle.life_lines.specs.Lines.{ending_line}
 use Rattle.ckpt_base.specs.declared.ending.Ending.{Ending}
 use Rattle.ckpt_base.specs.declared.ending.Ending.TheVariants.{Ended, Trapped, Going}
@@ -76,22 +77,34 @@ occupied_line image step = codes "occupied: image " ++ (decimal image ++ (codes 
 abbrev pub usage_line : List ℕ
 usage_line = codes "usage: ckpt plain|check|compile|report|run|restart|images|coalesce|clear|drill|generate\n"
 
+-- digests that differ: the one that the newest image has, and the one that was given
+abbrev pub other_line : (what : List ℕ) (kept given : List ℕ) → List ℕ
+other_line what kept given = codes "other " ++ (what ++ (codes " kept " ++ (encode_lower kept ++ (codes " given " ++ (encode_lower given ++ codes "\n")))))
+
+abbrev pub behind_line : (bound step : ℕ) → List ℕ
+behind_line bound step = codes "bound " ++ (decimal bound ++ (codes " below step " ++ (decimal step ++ codes "\n")))
+
 -- the line of a cause that is always the same
-abbrev pub fixed_line : Cause → List ℕ
-fixed_line cause.Usage = usage_line
-fixed_line (cause.Refused r) = []
-fixed_line cause.DiskFault = codes "disk fault\n"
-fixed_line cause.ShelfFault = codes "shelf fault\n"
-fixed_line (cause.TooLarge document.Source) = codes "too large: source\n"
-fixed_line (cause.TooLarge document.Input) = codes "too large: input\n"
-fixed_line (cause.Damaged file place) = []
-fixed_line (cause.Occupied image step) = []
+abbrev pub fixed_line : Cause → Option (List ℕ)
+fixed_line cause.Usage = Some usage_line
+fixed_line cause.DiskFault = Some (codes "disk fault\n")
+fixed_line cause.ShelfFault = Some (codes "shelf fault\n")
+fixed_line (cause.TooLarge document.Source) = Some (codes "too large: source\n")
+fixed_line (cause.TooLarge document.Input) = Some (codes "too large: input\n")
+fixed_line c = None
+
+-- the line of one that says more
+abbrev pub made_line : Cause → List ℕ
+made_line (cause.Refused r) = refused_line r
+made_line (cause.Damaged file place) = damaged_line file place
+made_line (cause.Occupied image step) = occupied_line image step
+made_line (cause.OtherSource kept given) = other_line (codes "source") kept given
+made_line (cause.OtherInput kept given) = other_line (codes "input") kept given
+made_line (cause.Behind bound step) = behind_line bound step
+made_line c = []
 
 abbrev pub cause_text : Cause → List ℕ
-cause_text (cause.Refused r) = refused_line r
-cause_text (cause.Damaged file place) = damaged_line file place
-cause_text (cause.Occupied image step) = occupied_line image step
-cause_text c = fixed_line c
+cause_text c = unwrap_or (fixed_line c) (made_line c)
 
 abbrev pub cause_status : Cause → ℕ
 cause_status cause.Usage = 1
@@ -99,8 +112,11 @@ cause_status (cause.Refused r) = 2
 cause_status cause.DiskFault = 5
 cause_status cause.ShelfFault = 6
 cause_status (cause.Damaged file place) = 8
+cause_status (cause.OtherSource kept given) = 9
+cause_status (cause.OtherInput kept given) = 9
 cause_status (cause.Occupied image step) = 10
 cause_status (cause.TooLarge d) = 11
+cause_status (cause.Behind bound step) = 13
 
 -- ---- what a command has come to
 

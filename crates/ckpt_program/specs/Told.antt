@@ -1,12 +1,12 @@
 -- What the console takes, and the status with which the program ends.
-use Rattle.std.specs.Prelude.{◌≡◌, ◌≤◌, ◌++◌, ◌⊎◌, ℕ, List, IsTrue, take, Result, Ok, Err}
+use Rattle.std.specs.Prelude.{◌≡◌, ◌≤◌, ◌++◌, ◌⊎◌, ℕ, List, IsTrue, IsSome, take, Result, Ok, Err}
 use Rattle.ckpt_base.specs.Faults.{Rose}
 use Rattle.ckpt_base.specs.Sink.{SinkView}
 use Rattle.ckpt_program.specs.declared.done.Done.{Done}
-use Rattle.ckpt_program.specs.declared.stop.Cause.TheVariants as cause
+use Rattle.ckpt_program.specs.declared.done.Done.TheVariants as done
 use Rattle.ckpt_program.specs.declared.stop.Stop.{Stop}
 use Rattle.ckpt_program.specs.declared.stop.Stop.TheVariants as stop
-use Rattle.ckpt_program.specs.Texts.{text_of, status_of, broken_status}
+use Rattle.ckpt_program.specs.Texts.{fixed_line, text_of, status_of, broken_status}
 
 -- the console took the whole text
 pub record TakesAll (text : List ℕ) (status : ℕ) (old new : SinkView) (result : ℕ) : Type 0 where
@@ -33,7 +33,18 @@ Tells o old new result = Takes (text_of o) (status_of o) (broken_status o) old n
 -- its line is always the same
 abbrev pub HasFixedLine : Result Done Stop → Type 0
 HasFixedLine (Ok d) = ⊥
-HasFixedLine (Err (stop.Because (cause.Refused r))) = ⊥
-HasFixedLine (Err (stop.Because (cause.Damaged file place))) = ⊥
-HasFixedLine (Err (stop.Because (cause.Occupied image step))) = ⊥
-HasFixedLine (Err e) = Unit {0}
+HasFixedLine (Err stop.NoMemory) = Unit {0}
+HasFixedLine (Err (stop.Because c)) = IsSome (fixed_line c)
+
+-- its text was made while it was carried out
+abbrev pub HasTextAtHand : Result Done Stop → Type 0
+HasTextAtHand (Ok (done.Told t)) = Unit {0}
+HasTextAtHand o = ⊥
+
+-- the status of a run that ended, trapped, or stopped at its bound
+abbrev pub IsEnding : ℕ → Type 0
+IsEnding status = (status ≡ 0) ⊎ ((status ≡ 3) ⊎ (status ≡ 4))
+
+-- the status of a command that was carried out: that of its run, or that of a console which did not take its text
+abbrev pub IsDone : ℕ → Type 0
+IsDone status = IsEnding status ⊎ (status ≡ 7)

@@ -6,6 +6,7 @@
 //! A command is a row of stages (`specs/Rows`), and a file of its own; a stage is what its answer may be (`specs/Stages`).
 #![tactic(auto)]
 
+mod cause_lines;
 mod check;
 #[cfg(test)]
 mod check_rows;
@@ -19,6 +20,8 @@ mod graph_tests;
 mod graphs;
 mod images;
 mod intake;
+mod life_stages;
+mod lives;
 #[cfg(test)]
 mod machine_run;
 #[cfg(test)]
@@ -33,6 +36,10 @@ mod report_rows;
 mod report_text;
 mod stages;
 mod stop;
+#[cfg(test)]
+mod store_rows;
+#[cfg(test)]
+mod store_tests;
 mod telling;
 #[cfg(test)]
 mod tests;

@@ -1,6 +1,6 @@
 //! Why a command stops before it is done, and what is told of that.
 
-ghost use Rattle.std.specs.Prelude.{◌≡◌, IfOk};
+ghost use Rattle.std.specs.Prelude.{◌≡◌, MatchOption, Some, None};
 ghost use Rattle.ckpt_program.specs.Fetched.{limit_of};
 ghost use Rattle.ckpt_program.specs.Texts as spec;
 
@@ -60,6 +60,27 @@ pub enum Cause {
         /// The steps taken up to it.
         step: u64,
     },
+    /// The newest image is of another source.
+    OtherSource {
+        /// The digest that the image has.
+        kept: [u8; 32],
+        /// The one of the source that was given.
+        given: [u8; 32],
+    },
+    /// The newest image is of another input.
+    OtherInput {
+        /// The digest that the image has.
+        kept: [u8; 32],
+        /// The one of the input that was given.
+        given: [u8; 32],
+    },
+    /// The bound is below the steps of the newest image.
+    Behind {
+        /// The bound.
+        bound: u64,
+        /// The steps of the newest image.
+        step: u64,
+    },
 }
 
 /// Why a command stops before it is done.
@@ -86,51 +107,26 @@ impl Cause {
             Cause::DiskFault => 5,
             Cause::ShelfFault => 6,
             Cause::Damaged { .. } => 8,
+            Cause::OtherSource { .. } | Cause::OtherInput { .. } => 9,
             Cause::Occupied { .. } => 10,
             Cause::TooLarge(_) => 11,
+            Cause::Behind { .. } => 13,
         }
     }
 
-    /// The line that tells it. Those of a refusal, of damage and of an occupied store are made by functions of their own; here they are empty.
-    pub fn fixed_line(&self) -> &'static [u8]
-        ensures answer { result.now ≡ spec.fixed_line self.now }
+    /// The line that tells it, where that is always the same; the others are made, by `made_line`.
+    pub fn fixed_line(&self) -> Option<&'static [u8]>
+        ensures answer { MatchOption result (spec.fixed_line self.now ≡ None) (λ line. spec.fixed_line self.now ≡ Some line.now) }
     {
         match self {
-            Cause::Usage => USAGE,
-            Cause::Refused(_) | Cause::Damaged { .. } | Cause::Occupied { .. } => b"",
-            Cause::DiskFault => b"disk fault\n",
-            Cause::ShelfFault => b"shelf fault\n",
-            Cause::TooLarge(Document::Source) => b"too large: source\n",
-            Cause::TooLarge(Document::Input) => b"too large: input\n",
+            Cause::Usage => Some(USAGE),
+            Cause::DiskFault => Some(b"disk fault\n"),
+            Cause::ShelfFault => Some(b"shelf fault\n"),
+            Cause::TooLarge(Document::Source) => Some(b"too large: source\n"),
+            Cause::TooLarge(Document::Input) => Some(b"too large: input\n"),
+            _ => None,
         }
     }
-}
-
-/// The text that tells a refusal.
-pub fn refused_line(alloc: Global, refusal: &Refusal) -> Result<Vec<u8>, AllocError>
-    ensures answer { IfOk result (λ t. t.items ≡ spec.refused_line refusal.now) }
-{
-    let mut line = Vec::from_slice(alloc, b"refused: ")?;
-    let text = refusal.text(alloc)?;
-    line.extend_from_slice(&text)?;
-    line.push(b'\n')?;
-    Ok(line)
-}
-
-/// The text that tells damage.
-pub fn damaged_line(alloc: Global, file: DiskFile, place: u64) -> Result<Vec<u8>, AllocError>
-    ensures answer { IfOk result (λ t. t.items ≡ spec.damaged_line file place) }
-{
-    let line = format!(in alloc; "damaged file {file} at {place}\n")?;
-    Vec::from_slice(alloc, line.as_bytes())
-}
-
-/// The text that tells an occupied store.
-pub fn occupied_line(alloc: Global, image: u32, step: u64) -> Result<Vec<u8>, AllocError>
-    ensures answer { IfOk result (λ t. t.items ≡ spec.occupied_line image step) }
-{
-    let line = format!(in alloc; "occupied: image {image} step {step}\n")?;
-    Vec::from_slice(alloc, line.as_bytes())
 }
 
 impl From<NoMemory> for Stop {

@@ -3,11 +3,12 @@
 ghost use Rattle.std.specs.Prelude.{◌≡◌, ◌⊎◌, Err};
 ghost use Rattle.ckpt_program.specs.declared.stop.Stop.TheVariants as stop;
 ghost use Rattle.ckpt_program.specs.Texts.{status_of};
-ghost use Rattle.ckpt_program.specs.Told.{Takes, Tells, HasFixedLine};
+ghost use Rattle.ckpt_program.specs.Told.{Takes, Tells, HasFixedLine, HasTextAtHand, IsDone};
 
+use crate::cause_lines::made_line;
 use crate::console::write_all;
 use crate::done::{Done, ending_status};
-use crate::stop::{Cause, Stop, damaged_line, occupied_line, refused_line};
+use crate::stop::{Cause, Stop};
 use ckpt_base::{Failed, Sink};
 use std::alloc::Global;
 
@@ -22,6 +23,8 @@ pub fn tell<K: Sink>(alloc: Global, console: &mut K, came: &Result<Done, Stop>) 
     ensures answer { Tells came.now (K.view console.old) (K.view console.new) result ⊎ Tells (Err stop.NoMemory) (K.view console.old) (K.view console.new) result }
     // a line that is always the same takes no memory
     ensures fixed { HasFixedLine came.now → result ≡ status_of came.now }
+    // nor does what a life has told
+    ensures at_hand { HasTextAtHand came.now → IsDone result }
 {
     match came {
         Ok(Done::Told(told)) => write(
@@ -44,20 +47,13 @@ fn tell_cause<K: Sink>(alloc: Global, console: &mut K, cause: &Cause) -> u8
     ensures answer { Tells (Err (stop.Because cause.now)) (K.view console.old) (K.view console.new) result ⊎ Tells (Err stop.NoMemory) (K.view console.old) (K.view console.new) result }
     ensures fixed { HasFixedLine (Err (stop.Because cause.now)) → result ≡ status_of (Err (stop.Because cause.now)) }
 {
-    match cause {
-        Cause::Refused(refusal) => match refused_line(alloc, refusal) {
-            Ok(text) => write(console, &text, 2, 2),
+    let status = cause.status();
+    match cause.fixed_line() {
+        Some(line) => write(console, line, status, status),
+        None => match made_line(alloc, cause) {
+            Ok(line) => write(console, &line, status, status),
             Err(_) => no_memory(console),
         },
-        Cause::Damaged { file, place } => match damaged_line(alloc, *file, *place) {
-            Ok(text) => write(console, &text, 8, 8),
-            Err(_) => no_memory(console),
-        },
-        Cause::Occupied { image, step } => match occupied_line(alloc, *image, *step) {
-            Ok(text) => write(console, &text, 10, 10),
-            Err(_) => no_memory(console),
-        },
-        cause => write(console, cause.fixed_line(), cause.status(), cause.status()),
     }
 }
 

@@ -1,24 +1,30 @@
 //! The whole program.
 
-ghost use Rattle.std.specs.Prelude.{◌≡◌, ◌<◌, length, Some};
+ghost use Rattle.std.specs.Prelude.{◌≡◌, ◌<◌, length, Some, OnOk};
 ghost use Rattle.disk_model.specs.View.{Steady};
 ghost use Rattle.disk_model.specs.Plate.{plate};
-ghost use Rattle.command_words.specs.Words.{command_of, HasPlaces};
+ghost use Rattle.command_words.specs.Words.{command_of, HasPlaces, HasRanges};
 ghost use Rattle.ckpt_program.specs.Sight.{sight, Calm, Later};
 ghost use Rattle.ckpt_program.specs.Stage.{Comes};
 ghost use Rattle.ckpt_program.specs.DiskStages.{CalmDisk, Stays};
+ghost use Rattle.ckpt_program.specs.LifeStages.{KeepsRefused, OutputLasts};
 ghost use Rattle.ckpt_program.specs.Carries.{word_at, Carries, CarriesSome};
-ghost use Rattle.ckpt_program.specs.Top.{Answers, Blames, IsQuiet, AnyMoment, NoImageLost, LeavesContents, Complete};
+ghost use Rattle.ckpt_program.specs.Headline.{EndsAsSource, SourceOf, StandThroughout, ToldBy};
+ghost use Rattle.ckpt_program.specs.Top.{Answers, Blames, IsQuiet, KeepsContents, AnyMoment, LeavesContents, LastsOutput, Complete};
+ghost use Rattle.ckpt_runner.specs.Standing.{KeepsImages};
 
 use crate::check::check;
 use crate::compile::compile;
 use crate::done::Done;
 use crate::images::images;
+use crate::life_stages::Asked;
+use crate::lives::live_job;
 use crate::plain::plain;
 use crate::report::report;
 use crate::stop::{Cause, Stop};
 use crate::telling::tell;
 use ckpt_base::{Shelf, Sink, Text};
+use ckpt_runner::Mode;
 use command_words::{Command, read_words};
 use disk_model::Disk;
 use std::alloc::Global;
@@ -26,10 +32,12 @@ use std::alloc::Global;
 /// Does all that the program does: carries out the command that the words are, over the files of the shelf, and tells the
 /// outcome on the console, which is written once, when it is over. Answers the status with which the program ends.
 ///
-/// 0, 3 and 4 come by the ending of the run, and 0 for an accepted source, for its code and for its excluded sets; 1 exactly
-/// where the words are no command; 2 exactly where the source is refused; 6 only where the shelf failed or lacks a file; 7
-/// only where the console failed while the text of 0, 3 or 4 was written; 11 exactly where a file is longer than its limit;
-/// 12 where no memory is found.
+/// 0, 3 and 4 come by the ending of the run, and 0 for an accepted source, for its code, its excluded sets and the records of a
+/// store; 1 exactly where the words are no command; 2 exactly where the source is refused; 5 only where the disk failed; 6 only
+/// where the shelf failed or lacks a file; 7 only where the console failed while the text of 0, 3 or 4 was written; 8 exactly
+/// where the store is damaged; 9 exactly where `restart` finds an image of another source or input; 10 exactly where `run` finds
+/// a chain; 11 exactly where a file is longer than its limit; 12 where no memory is found; 13 exactly where the bound of
+/// `restart` is below the newest image.
 pub fn ckpt<H: Shelf, D: Disk, K: Sink>(
     alloc: Global,
     words: &Vec<Text>,
@@ -39,12 +47,14 @@ pub fn ckpt<H: Shelf, D: Disk, K: Sink>(
 ) -> u8
     ensures answer { Answers words.now.items (H.view shelf.old) (H.view shelf.new) (D.view disk.old) (D.view disk.new) (K.view console.old) (K.view console.new) result }
     ensures steady { Later (sight (H.view shelf.old)) (sight (H.view shelf.new)) × Steady (D.view disk.old) (D.view disk.new) }
-    ensures any_moment { AnyMoment (command_of words.now.items) (D.view disk.old) (D.view disk.new) }
-    ensures no_image_lost { NoImageLost (command_of words.now.items) (D.view disk.old) (D.view disk.new) }
+    ensures ends_as_source { EndsAsSource words.now.items (command_of words.now.items) (sight (H.view shelf.old)) (D.view disk.old) (D.view disk.new) (K.view console.old) (K.view console.new) result }
+    ensures any_moment { AnyMoment words.now.items (command_of words.now.items) (sight (H.view shelf.old)) (D.view disk.old) (D.view disk.new) }
+    ensures no_image_lost { KeepsImages (D.view disk.old) (D.view disk.new) }
     ensures untouched { LeavesContents (command_of words.now.items) result (D.view disk.old) (D.view disk.new) }
+    ensures lasting { LastsOutput (command_of words.now.items) result (D.view disk.new) }
     ensures blamed { Blames 6 (H.view shelf.old).faults (H.view shelf.new).faults result }
     ensures blamed_disk { Blames 5 (D.view disk.old).faults (D.view disk.new).faults result }
-    ensures complete { Complete words.now.items (command_of words.now.items) (H.view shelf.old) (H.view shelf.new) (plate (D.view disk.old)) (plate (D.view disk.new)) (K.view console.old) (K.view console.new) result }
+    ensures complete { Complete words.now.items (command_of words.now.items) (H.view shelf.old) (H.view shelf.new) (D.view disk.old) (D.view disk.new) (K.view console.old) (K.view console.new) result }
 {
     let came = come_to(alloc, words, shelf, disk);
     tell(alloc, console, &came)
@@ -59,8 +69,13 @@ fn come_to<H: Shelf, D: Disk>(
 ) -> Result<Done, Stop>
     ensures answer { Comes (CarriesSome words.now.items (command_of words.now.items) (sight (H.view shelf.old)) (sight (H.view shelf.new)) (plate (D.view disk.old)) (plate (D.view disk.new))) result }
     ensures calm { Calm result (sight (H.view shelf.old)) (sight (H.view shelf.new)) }
-    ensures stays { Stays (D.view disk.old) (D.view disk.new) }
+    ensures keeps { KeepsRefused result (D.view disk.old) (D.view disk.new) }
+    ensures lasting { (KeepsContents (command_of words.now.items) → ⊥) → OnOk result (OutputLasts (D.view disk.new)) }
+    ensures stays { KeepsContents (command_of words.now.items) → Stays (D.view disk.old) (D.view disk.new) }
     ensures quiet { IsQuiet (command_of words.now.items) → disk.new ≡ disk.old }
+    ensures moments { StandThroughout (SourceOf words.now.items (command_of words.now.items) (sight (H.view shelf.old))) (D.view disk.old) (D.view disk.new) }
+    ensures later { KeepsImages (D.view disk.old) (D.view disk.new) }
+    ensures told { ToldBy words.now.items (command_of words.now.items) (sight (H.view shelf.old)) (D.view disk.old) result (D.view disk.new) }
     ensures count { CalmDisk result (D.view disk.old).faults (D.view disk.new).faults }
 {
     match read_words(alloc, words)? {
@@ -78,10 +93,16 @@ fn carry<H: Shelf, D: Disk>(
     disk: &mut D,
 ) -> Result<Done, Stop>
     requires places { HasPlaces command (length words.now) }
+    requires ranges { HasRanges command }
     ensures answer { Comes (Carries words.now command (sight (H.view shelf.old)) (sight (H.view shelf.new)) (plate (D.view disk.old)) (plate (D.view disk.new))) result }
     ensures calm { Calm result (sight (H.view shelf.old)) (sight (H.view shelf.new)) }
-    ensures stays { Stays (D.view disk.old) (D.view disk.new) }
+    ensures keeps { KeepsRefused result (D.view disk.old) (D.view disk.new) }
+    ensures lasting { (KeepsContents (Some command) → ⊥) → OnOk result (OutputLasts (D.view disk.new)) }
+    ensures stays { KeepsContents (Some command) → Stays (D.view disk.old) (D.view disk.new) }
     ensures quiet { IsQuiet (Some command) → disk.new ≡ disk.old }
+    ensures moments { StandThroughout (SourceOf words.now (Some command) (sight (H.view shelf.old))) (D.view disk.old) (D.view disk.new) }
+    ensures later { KeepsImages (D.view disk.old) (D.view disk.new) }
+    ensures told { ToldBy words.now (Some command) (sight (H.view shelf.old)) (D.view disk.old) result (D.view disk.new) }
     ensures count { CalmDisk result (D.view disk.old).faults (D.view disk.new).faults }
 {
     match command {
@@ -93,7 +114,49 @@ fn carry<H: Shelf, D: Disk>(
             input,
             until,
         } => plain(alloc, shelf, word(words, source), word(words, input), until),
-        Command::Run { .. } => Err(Stop::Because(Cause::Usage)),
+        Command::Run {
+            source,
+            input,
+            dir,
+            settings,
+        } => {
+            let asked = Asked {
+                mode: Mode::Run,
+                settings,
+                fill: 0,
+            };
+            live_job(
+                alloc,
+                shelf,
+                disk,
+                word(words, source),
+                word(words, input),
+                word(words, dir),
+                asked,
+            )
+        }
+        Command::Restart {
+            source,
+            input,
+            dir,
+            settings,
+            fill,
+        } => {
+            let asked = Asked {
+                mode: Mode::Restart,
+                settings,
+                fill,
+            };
+            live_job(
+                alloc,
+                shelf,
+                disk,
+                word(words, source),
+                word(words, input),
+                word(words, dir),
+                asked,
+            )
+        }
         Command::Images { dir } => images(alloc, disk, word(words, dir)),
     }
 }

@@ -2,7 +2,7 @@
 use Rattle.std.specs.Prelude.{ℕ, List, [], ◌∷◌, Option, Some, None, Bool, true, false, ◌&&◌, ◌==◌, codes, bytes_eq, is_none, nat_le, if◌then◌else◌}
 use Rattle.command_words.specs.Numbers.{number}
 use Rattle.command_words.specs.declared.options.Name.{Name}
-use Rattle.command_words.specs.declared.options.Name.TheVariants.{Until, Every, Max, Pace}
+use Rattle.command_words.specs.declared.options.Name.TheVariants.{Until, Every, Max, Pace, Fill}
 
 abbrev pub Word : Type 0
 Word = List ℕ
@@ -18,6 +18,7 @@ word_of Until = codes "--until"
 word_of Every = codes "--every"
 word_of Max = codes "--max"
 word_of Pace = codes "--pace"
+word_of Fill = codes "--fill"
 
 -- which of these names a word is
 abbrev pub name_in : List Name → Word → Option Name

@@ -2,10 +2,11 @@
 use Rattle.std.specs.Prelude.{ℕ, ◌-◌, ◌^◌, ◌<◌, ◌≤◌, List, [], ◌∷◌, Option, Some, None, option_and_then, ◌||◌, codes, bytes_eq, if◌then◌else◌}
 use Rattle.std.specs.Option.{option_map}
 use Rattle.command_words.specs.Options.{Word, is_option, are_options, number_or, number_within}
-use Rattle.command_words.specs.declared.options.Name.TheVariants.{Until, Every, Max, Pace}
+use Rattle.command_words.specs.declared.options.Name.{Name}
+use Rattle.command_words.specs.declared.options.Name.TheVariants.{Until, Every, Max, Pace, Fill}
 use Rattle.command_words.specs.declared.command.Settings.{Settings}
 use Rattle.command_words.specs.declared.command.Command.{Command}
-use Rattle.command_words.specs.declared.command.Command.TheVariants.{Plain, Check, Compile, Report, Run, Images}
+use Rattle.command_words.specs.declared.command.Command.TheVariants.{Plain, Check, Compile, Report, Run, Restart, Images}
 
 -- the greatest number of steps that can be asked for
 abbrev pub most_steps : ℕ
@@ -22,18 +23,25 @@ plain_of _ = None
 abbrev pub steps_of : List Word → Option ℕ
 steps_of options = number_or Until most_steps options
 
--- how a life is run: `--until N`, `--every N`, `--max N` and `--pace 0`
-abbrev pub settings_of : List Word → Option Settings
-settings_of options =
-    if are_options (Until ∷ Every ∷ Max ∷ Pace ∷ []) options
+-- how a life is run: `--until N`, `--every N`, `--max N` and `--pace 0`, among options of these names
+abbrev pub settings_of : List Name → List Word → Option Settings
+settings_of names options =
+    if are_options names options
     then option_and_then (λ until. option_and_then (λ every. option_and_then (λ max. option_map (λ _. record { until = until; every = every; max = max })
     (number_within Pace 0 0 0 options)) (number_within Max 16 2 64 options)) (number_within Every 1 1 4294967295 options)) (steps_of options)
     else None
 
 -- `run SRC INPUT DIR` and its options
 abbrev pub run_of : List Word → Option Command
-run_of (source ∷ input ∷ dir ∷ options) = if is_option source || (is_option input || is_option dir) then None else option_map (Run 1 2 3) (settings_of options)
+run_of (source ∷ input ∷ dir ∷ options) = if is_option source || (is_option input || is_option dir) then None else option_map (Run 1 2 3) (settings_of (Until ∷ Every ∷ Max ∷ Pace ∷ []) options)
 run_of _ = None
+
+-- `restart SRC INPUT DIR`, the same options, and `--fill N`
+abbrev pub restart_of : List Word → Option Command
+restart_of (source ∷ input ∷ dir ∷ options) =
+    if is_option source || (is_option input || is_option dir) then None
+    else option_and_then (λ settings. option_map (Restart 1 2 3 settings) (number_within Fill 0 0 255 options)) (settings_of (Until ∷ Every ∷ Max ∷ Pace ∷ Fill ∷ []) options)
+restart_of _ = None
 
 -- the command, where the one word behind its name is a file or a directory
 abbrev pub of_one : Command → List Word → Option Command
@@ -49,6 +57,7 @@ command_of (name ∷ words) =
     else if bytes_eq name (codes "compile") then of_one (Compile 1) words
     else if bytes_eq name (codes "report") then of_one (Report 1) words
     else if bytes_eq name (codes "run") then run_of words
+    else if bytes_eq name (codes "restart") then restart_of words
     else if bytes_eq name (codes "images") then of_one (Images 1) words
     else None
 
@@ -59,6 +68,7 @@ HasPlaces (Check source) n = source < n
 HasPlaces (Compile source) n = source < n
 HasPlaces (Report source) n = source < n
 HasPlaces (Run source input dir settings) n = (source < n) × (input < n) × (dir < n)
+HasPlaces (Restart source input dir settings fill) n = (source < n) × (input < n) × (dir < n)
 HasPlaces (Images dir) n = dir < n
 
 -- the numbers of the settings are in range
@@ -69,4 +79,5 @@ pub record InRange (s : Settings) : Type 0 where
 
 abbrev pub HasRanges : Command → Type 0
 HasRanges (Run source input dir settings) = InRange settings
+HasRanges (Restart source input dir settings fill) = InRange settings
 HasRanges command = Unit {0}

@@ -37,6 +37,15 @@ pub enum Command {
         dir: usize,
         settings: Settings,
     },
+    /// `restart SRC INPUT DIR`: goes on from the newest image of a store, or begins where it has none.
+    Restart {
+        source: usize,
+        input: usize,
+        dir: usize,
+        settings: Settings,
+        /// The byte that memory holds which no image lists.
+        fill: u8,
+    },
     /// `images DIR`: lists the records of a store.
     Images {
         dir: usize,

@@ -17,6 +17,8 @@ pub enum Name {
     Max,
     /// How many instructions lie before each call of the writer of images.
     Pace,
+    /// The byte that memory holds which no image lists.
+    Fill,
 }
 
 impl Name {
@@ -29,6 +31,7 @@ impl Name {
             Name::Every => b"--every",
             Name::Max => b"--max",
             Name::Pace => b"--pace",
+            Name::Fill => b"--fill",
         }
     }
 }

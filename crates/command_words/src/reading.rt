@@ -11,7 +11,7 @@ use std::alloc::Global;
 
 /// The command that the words are; none exactly where they are no command.
 ///
-/// An option that is not given has its default: `--until` the greatest number of 64 bits, `--every` 1, `--max` 16, and `--pace` 0, its one value.
+/// An option that is not given has its default: `--until` the greatest number of 64 bits, `--every` 1, `--max` 16, `--fill` 0, and `--pace` 0, its one value.
 pub fn read_words(alloc: Global, words: &Vec<Text>) -> Result<Option<Command>, NoMemory>
     ensures answer { IfOk result (λ c. c ≡ command_of words.now.items) }
     // each file is one of the words
@@ -40,6 +40,8 @@ fn command(words: &[Text]) -> Option<Command>
                 of_one(words, Command::Report { source: 1 })
             } else if name.as_bytes() == b"run".as_slice() {
                 run(words)
+            } else if name.as_bytes() == b"restart".as_slice() {
+                restart(words)
             } else if name.as_bytes() == b"images".as_slice() {
                 of_one(words, Command::Images { dir: 1 })
             } else {
@@ -80,7 +82,7 @@ fn run(words: &[Text]) -> Option<Command>
     match words {
         [source, input, dir, options @ ..]
             if !is_option(source) && !is_option(input) && !is_option(dir) => {
-            let settings = settings(options)?;
+            let settings = settings(options, &[Name::Until, Name::Every, Name::Max, Name::Pace])?;
             Some(Command::Run {
                 source: 1,
                 input: 2,
@@ -92,12 +94,38 @@ fn run(words: &[Text]) -> Option<Command>
     }
 }
 
-// How a life is run, as the options say.
-fn settings(options: &[Text]) -> Option<Settings>
-    ensures answer { result ≡ spec.settings_of options.now }
+// `restart` and the words behind it.
+fn restart(words: &[Text]) -> Option<Command>
+    ensures answer { result ≡ spec.restart_of words.now }
+    ensures places { IfSome result (λ command. HasPlaces command (length words.now + 1)) }
+    ensures ranges { IfSome result HasRanges }
+{
+    match words {
+        [source, input, dir, options @ ..]
+            if !is_option(source) && !is_option(input) && !is_option(dir) => {
+            let settings = settings(
+                options,
+                &[Name::Until, Name::Every, Name::Max, Name::Pace, Name::Fill],
+            )?;
+            let fill = number_within(options, Name::Fill, 0, 0, 255)?;
+            Some(Command::Restart {
+                source: 1,
+                input: 2,
+                dir: 3,
+                settings,
+                fill: fill as u8,
+            })
+        }
+        _ => None,
+    }
+}
+
+// How a life is run, as the options say, which are of these names.
+fn settings(options: &[Text], names: &[Name]) -> Option<Settings>
+    ensures answer { result ≡ spec.settings_of names.now options.now }
     ensures ranges { IfSome result InRange }
 {
-    if !are_options(options, &[Name::Until, Name::Every, Name::Max, Name::Pace]) {
+    if !are_options(options, names) {
         return None;
     }
     let until = steps(options)?;

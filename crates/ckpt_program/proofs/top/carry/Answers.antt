@@ -1,9 +1,16 @@
-use Rattle.std.proofs.Common.{refl, subst, ℕ, List}
+use Rattle.std.proofs.Common.{refl, subst, ℕ, List, Some}
+use Rattle.command_words.specs.Words.{HasRanges}
+use Rattle.disk_model.specs.Plate.{plate}
+use Rattle.ckpt_program.specs.Carries.{word_at}
+use Rattle.ckpt_program.specs.Headline.{SourceOf, IsSourceIn, StandThroughout, ToldAsSource}
+use Rattle.ckpt_program.specs.LifeRow as life
+use Rattle.ckpt_program.specs.LifeStages.{to_begin, to_go_on}
+use Rattle.ckpt_program.specs.Rows as row
 use Rattle.ckpt_program.specs.Sight.{sight}
 use Rattle.ckpt_program.specs.Stage.{Comes}
-use Rattle.ckpt_program.specs.Carries.{word_at}
-use Rattle.ckpt_program.specs.Rows as row
 use Rattle.ckpt_program.proofs.Disks.{stays_still, calm_still, calm_disk_still}
+use Rattle.ckpt_program.proofs.Living.{keeps_still, keeps_stays, standing_stays, images_stay}
+use Rattle.ckpt_program.proofs.Running.{named_stand, told_run, told_restart}
 use Rattle.ckpt_program.proofs.top.carry.Goals as goal
 
 pub returns-in-Check-clause-answer : goal.returns-in-Check-clause-answer
@@ -33,35 +40,152 @@ returns-in-Images-clause-answer g c = rw c.in-Images.is c.images.ensures.answer
 pub returns-in-Images-clause-quiet : goal.returns-in-Images-clause-quiet
 returns-in-Images-clause-quiet g c = rw c.in-Images.is (λ quiet. absurd quiet)
 
+pub returns-in-Images-clause-calm : goal.returns-in-Images-clause-calm
+returns-in-Images-clause-calm g c = calm_still c.images.result (sight (g.H.Shelf.view c.args.shelf.now))
+
+pub returns-in-Images-clause-keeps : goal.returns-in-Images-clause-keeps
+returns-in-Images-clause-keeps g c = keeps_stays c.images.result (g.D.Disk.view c.args.disk.now) (g.D.Disk.view c.images.new.disk) c.images.ensures.stays
+
 pub returns-in-Check-clause-stays : goal.returns-in-Check-clause-stays
-returns-in-Check-clause-stays g c = stays_still (g.D.Disk.view c.args.disk.now) (g.met.D.Disk.lawful c.args.disk.now)
-
-pub returns-in-Compile-clause-stays : goal.returns-in-Compile-clause-stays
-returns-in-Compile-clause-stays g c = stays_still (g.D.Disk.view c.args.disk.now) (g.met.D.Disk.lawful c.args.disk.now)
-
-pub returns-in-Report-clause-stays : goal.returns-in-Report-clause-stays
-returns-in-Report-clause-stays g c = stays_still (g.D.Disk.view c.args.disk.now) (g.met.D.Disk.lawful c.args.disk.now)
-
-pub returns-in-Plain-clause-stays : goal.returns-in-Plain-clause-stays
-returns-in-Plain-clause-stays g c = stays_still (g.D.Disk.view c.args.disk.now) (g.met.D.Disk.lawful c.args.disk.now)
-
-pub returns-in-Run-clause-stays : goal.returns-in-Run-clause-stays
-returns-in-Run-clause-stays g c = stays_still (g.D.Disk.view c.args.disk.now) (g.met.D.Disk.lawful c.args.disk.now)
+returns-in-Check-clause-stays g c = λ kept. stays_still (g.D.Disk.view c.args.disk.now) (g.met.D.Disk.lawful c.args.disk.now)
 
 pub returns-in-Check-clause-count : goal.returns-in-Check-clause-count
 returns-in-Check-clause-count g c = calm_disk_still c.check.result (g.D.Disk.view c.args.disk.now).faults
 
+pub returns-in-Check-clause-keeps : goal.returns-in-Check-clause-keeps
+returns-in-Check-clause-keeps g c = keeps_still c.check.result (g.D.Disk.view c.args.disk.now)
+
+pub returns-in-Compile-clause-stays : goal.returns-in-Compile-clause-stays
+returns-in-Compile-clause-stays g c = λ kept. stays_still (g.D.Disk.view c.args.disk.now) (g.met.D.Disk.lawful c.args.disk.now)
+
 pub returns-in-Compile-clause-count : goal.returns-in-Compile-clause-count
 returns-in-Compile-clause-count g c = calm_disk_still c.compile.result (g.D.Disk.view c.args.disk.now).faults
+
+pub returns-in-Compile-clause-keeps : goal.returns-in-Compile-clause-keeps
+returns-in-Compile-clause-keeps g c = keeps_still c.compile.result (g.D.Disk.view c.args.disk.now)
+
+pub returns-in-Report-clause-stays : goal.returns-in-Report-clause-stays
+returns-in-Report-clause-stays g c = λ kept. stays_still (g.D.Disk.view c.args.disk.now) (g.met.D.Disk.lawful c.args.disk.now)
 
 pub returns-in-Report-clause-count : goal.returns-in-Report-clause-count
 returns-in-Report-clause-count g c = calm_disk_still c.report.result (g.D.Disk.view c.args.disk.now).faults
 
+pub returns-in-Report-clause-keeps : goal.returns-in-Report-clause-keeps
+returns-in-Report-clause-keeps g c = keeps_still c.report.result (g.D.Disk.view c.args.disk.now)
+
+pub returns-in-Plain-clause-stays : goal.returns-in-Plain-clause-stays
+returns-in-Plain-clause-stays g c = λ kept. stays_still (g.D.Disk.view c.args.disk.now) (g.met.D.Disk.lawful c.args.disk.now)
+
 pub returns-in-Plain-clause-count : goal.returns-in-Plain-clause-count
 returns-in-Plain-clause-count g c = calm_disk_still c.plain.result (g.D.Disk.view c.args.disk.now).faults
 
-pub returns-in-Run-clause-answer : goal.returns-in-Run-clause-answer
-returns-in-Run-clause-answer g c = rw c.in-Run.is refl
+pub returns-in-Plain-clause-keeps : goal.returns-in-Plain-clause-keeps
+returns-in-Plain-clause-keeps g c = keeps_still c.plain.result (g.D.Disk.view c.args.disk.now)
 
-pub returns-in-Images-clause-calm : goal.returns-in-Images-clause-calm
-returns-in-Images-clause-calm g c = calm_still c.images.result (sight (g.H.Shelf.view c.args.shelf.now))
+pub returns-in-Check-clause-moments : goal.returns-in-Check-clause-moments
+returns-in-Check-clause-moments g c = rw c.in-Check.is (λ told s none. absurd none)
+
+pub returns-in-Check-clause-later : goal.returns-in-Check-clause-later
+returns-in-Check-clause-later g c = let v = g.D.Disk.view c.args.disk.now in images_stay v v (g.met.D.Disk.tells_all c.args.disk.now) (stays_still v (g.met.D.Disk.lawful c.args.disk.now))
+
+pub returns-in-Check-clause-told : goal.returns-in-Check-clause-told
+returns-in-Check-clause-told g c = rw c.in-Check.is tt
+
+pub returns-in-Check-clause-lasting : goal.returns-in-Check-clause-lasting
+returns-in-Check-clause-lasting g c = rw c.in-Check.is (λ lives. absurd (lives tt))
+
+pub returns-in-Compile-clause-moments : goal.returns-in-Compile-clause-moments
+returns-in-Compile-clause-moments g c = rw c.in-Compile.is (λ told s none. absurd none)
+
+pub returns-in-Compile-clause-later : goal.returns-in-Compile-clause-later
+returns-in-Compile-clause-later g c = let v = g.D.Disk.view c.args.disk.now in images_stay v v (g.met.D.Disk.tells_all c.args.disk.now) (stays_still v (g.met.D.Disk.lawful c.args.disk.now))
+
+pub returns-in-Compile-clause-told : goal.returns-in-Compile-clause-told
+returns-in-Compile-clause-told g c = rw c.in-Compile.is tt
+
+pub returns-in-Compile-clause-lasting : goal.returns-in-Compile-clause-lasting
+returns-in-Compile-clause-lasting g c = rw c.in-Compile.is (λ lives. absurd (lives tt))
+
+pub returns-in-Report-clause-moments : goal.returns-in-Report-clause-moments
+returns-in-Report-clause-moments g c = rw c.in-Report.is (λ told s none. absurd none)
+
+pub returns-in-Report-clause-later : goal.returns-in-Report-clause-later
+returns-in-Report-clause-later g c = let v = g.D.Disk.view c.args.disk.now in images_stay v v (g.met.D.Disk.tells_all c.args.disk.now) (stays_still v (g.met.D.Disk.lawful c.args.disk.now))
+
+pub returns-in-Report-clause-told : goal.returns-in-Report-clause-told
+returns-in-Report-clause-told g c = rw c.in-Report.is tt
+
+pub returns-in-Report-clause-lasting : goal.returns-in-Report-clause-lasting
+returns-in-Report-clause-lasting g c = rw c.in-Report.is (λ lives. absurd (lives tt))
+
+pub returns-in-Plain-clause-moments : goal.returns-in-Plain-clause-moments
+returns-in-Plain-clause-moments g c = rw c.in-Plain.is (λ told s none. absurd none)
+
+pub returns-in-Plain-clause-later : goal.returns-in-Plain-clause-later
+returns-in-Plain-clause-later g c = let v = g.D.Disk.view c.args.disk.now in images_stay v v (g.met.D.Disk.tells_all c.args.disk.now) (stays_still v (g.met.D.Disk.lawful c.args.disk.now))
+
+pub returns-in-Plain-clause-told : goal.returns-in-Plain-clause-told
+returns-in-Plain-clause-told g c = rw c.in-Plain.is tt
+
+pub returns-in-Plain-clause-lasting : goal.returns-in-Plain-clause-lasting
+returns-in-Plain-clause-lasting g c = rw c.in-Plain.is (λ lives. absurd (lives tt))
+
+pub returns-in-Images-clause-moments : goal.returns-in-Images-clause-moments
+returns-in-Images-clause-moments g c = rw c.in-Images.is (λ told s none. absurd none)
+
+pub returns-in-Images-clause-later : goal.returns-in-Images-clause-later
+returns-in-Images-clause-later g c = images_stay (g.D.Disk.view c.args.disk.now) (g.D.Disk.view c.images.new.disk) (g.met.D.Disk.tells_all c.args.disk.now) c.images.ensures.stays
+
+pub returns-in-Images-clause-told : goal.returns-in-Images-clause-told
+returns-in-Images-clause-told g c = rw c.in-Images.is tt
+
+pub returns-in-Images-clause-lasting : goal.returns-in-Images-clause-lasting
+returns-in-Images-clause-lasting g c = rw c.in-Images.is (λ lives. absurd (lives tt))
+
+pub live_job-requires-clause-ranges : goal.live_job-requires-clause-ranges
+live_job-requires-clause-ranges g c = subst HasRanges c.in-Run.is c.requires.ranges
+
+pub returns-in-Run-clause-answer : goal.returns-in-Run-clause-answer
+returns-in-Run-clause-answer g c =
+    let view = g.H.Shelf.view in
+    let disk = g.D.Disk.view in
+    let named = λ (s i : List ℕ). Comes (life.Lives s i (to_begin c.in-Run.settings) (sight (view c.args.shelf.now)) (sight (view c.live_job.new.shelf)) (plate (disk c.args.disk.now)) (plate (disk c.live_job.new.disk))) c.live_job.result in
+    rw c.in-Run.is (subst (λ (s : List ℕ). named s (word_at c.args.words.now c.in-Run.input)) c.word-in-Run.ensures.answer (subst (named c.word-in-Run.result.now) c.word-in-Run-2.ensures.answer c.live_job.ensures.answer))
+
+pub returns-in-Run-clause-quiet : goal.returns-in-Run-clause-quiet
+returns-in-Run-clause-quiet g c = rw c.in-Run.is (λ quiet. absurd quiet)
+
+pub returns-in-Run-clause-stays : goal.returns-in-Run-clause-stays
+returns-in-Run-clause-stays g c = rw c.in-Run.is (λ kept. absurd kept)
+
+pub returns-in-Run-clause-moments : goal.returns-in-Run-clause-moments
+returns-in-Run-clause-moments g c =
+    rw c.in-Run.is (named_stand (sight (g.H.Shelf.view c.args.shelf.now)) (g.D.Disk.view c.args.disk.now) (g.D.Disk.view c.live_job.new.disk) c.word-in-Run.result.now c.word-in-Run-2.result.now (word_at c.args.words.now c.in-Run.source) (word_at c.args.words.now c.in-Run.input) c.word-in-Run.ensures.answer c.word-in-Run-2.ensures.answer c.live_job.ensures.moments)
+
+pub returns-in-Run-clause-told : goal.returns-in-Run-clause-told
+returns-in-Run-clause-told g c =
+    rw c.in-Run.is (told_run c.args.words.now (sight (g.H.Shelf.view c.args.shelf.now)) (g.D.Disk.view c.args.disk.now) (g.D.Disk.view c.live_job.new.disk) c.live_job.result c.in-Run.source c.in-Run.input c.in-Run.dir c.in-Run.settings c.word-in-Run.result.now c.word-in-Run-2.result.now c.word-in-Run.ensures.answer c.word-in-Run-2.ensures.answer c.live_job.ensures.told)
+
+pub live_job-in-Restart-requires-clause-ranges : goal.live_job-in-Restart-requires-clause-ranges
+live_job-in-Restart-requires-clause-ranges g c = subst HasRanges c.in-Restart.is c.requires.ranges
+
+pub returns-in-Restart-clause-answer : goal.returns-in-Restart-clause-answer
+returns-in-Restart-clause-answer g c =
+    let view = g.H.Shelf.view in
+    let disk = g.D.Disk.view in
+    let named = λ (s i : List ℕ). Comes (life.Lives s i (to_go_on c.in-Restart.settings c.in-Restart.fill) (sight (view c.args.shelf.now)) (sight (view c.live_job-in-Restart.new.shelf)) (plate (disk c.args.disk.now)) (plate (disk c.live_job-in-Restart.new.disk))) c.live_job-in-Restart.result in
+    rw c.in-Restart.is (subst (λ (s : List ℕ). named s (word_at c.args.words.now c.in-Restart.input)) c.word-in-Restart.ensures.answer (subst (named c.word-in-Restart.result.now) c.word-in-Restart-2.ensures.answer c.live_job-in-Restart.ensures.answer))
+
+pub returns-in-Restart-clause-quiet : goal.returns-in-Restart-clause-quiet
+returns-in-Restart-clause-quiet g c = rw c.in-Restart.is (λ quiet. absurd quiet)
+
+pub returns-in-Restart-clause-stays : goal.returns-in-Restart-clause-stays
+returns-in-Restart-clause-stays g c = rw c.in-Restart.is (λ kept. absurd kept)
+
+pub returns-in-Restart-clause-moments : goal.returns-in-Restart-clause-moments
+returns-in-Restart-clause-moments g c =
+    rw c.in-Restart.is (named_stand (sight (g.H.Shelf.view c.args.shelf.now)) (g.D.Disk.view c.args.disk.now) (g.D.Disk.view c.live_job-in-Restart.new.disk) c.word-in-Restart.result.now c.word-in-Restart-2.result.now (word_at c.args.words.now c.in-Restart.source) (word_at c.args.words.now c.in-Restart.input) c.word-in-Restart.ensures.answer c.word-in-Restart-2.ensures.answer c.live_job-in-Restart.ensures.moments)
+
+pub returns-in-Restart-clause-told : goal.returns-in-Restart-clause-told
+returns-in-Restart-clause-told g c =
+    rw c.in-Restart.is (told_restart c.args.words.now (sight (g.H.Shelf.view c.args.shelf.now)) (g.D.Disk.view c.args.disk.now) (g.D.Disk.view c.live_job-in-Restart.new.disk) c.live_job-in-Restart.result c.in-Restart.source c.in-Restart.input c.in-Restart.dir c.in-Restart.settings c.in-Restart.fill c.word-in-Restart.result.now c.word-in-Restart-2.result.now c.word-in-Restart.ensures.answer c.word-in-Restart-2.ensures.answer c.live_job-in-Restart.ensures.told)

@@ -1,4 +1,4 @@
-use Rattle.std.proofs.Common.{⊎_elim, Err, ◌≤◌, sym, subst}
+use Rattle.std.proofs.Common.{⊎_elim, Err, sym, subst}
 use Rattle.command_words.specs.Words.{command_of}
 use Rattle.disk_model.specs.Keeps.{Untouched}
 use Rattle.disk_model.specs.Plate.{plate}
@@ -7,25 +7,44 @@ use Rattle.ckpt_program.specs.Sight.{sight}
 use Rattle.ckpt_program.specs.declared.stop.Stop.TheVariants.{NoMemory}
 use Rattle.ckpt_program.proofs.Completeness.{complete}
 use Rattle.ckpt_program.proofs.Disks.{stays_moments, stays_lasting, blamed_disk, calm_later}
+use Rattle.ckpt_program.proofs.Lasting.{lasts_refused, ends_as_source, none_told, output_lasting}
 use Rattle.ckpt_program.proofs.top.ckpt.Goals as goal
 
 pub returns-clause-answer : goal.returns-clause-answer
 returns-clause-answer g c = ⊎_elim (λ told. (c.come_to-came.result, c.come_to-came.ensures.answer, told)) (λ told. (Err NoMemory, tt, told)) c.tell.ensures.answer
 
+pub returns-clause-ends_as_source : goal.returns-clause-ends_as_source
+returns-clause-ends_as_source g c =
+    let shelf = sight (g.H.Shelf.view c.args.shelf.now) in
+    let v = g.D.Disk.view c.args.disk.now in
+    let w = g.D.Disk.view c.come_to-came.new.disk in
+    let console = g.K.Sink.view in
+    let words = c.args.words.now.items in
+    let command = command_of words in
+    ⊎_elim (λ told. ends_as_source words command shelf v w c.come_to-came.result (console c.args.console.now) (console c.tell.new.console) c.tell.result c.come_to-came.ensures.told told)
+    (λ told. ends_as_source words command shelf v w (Err NoMemory) (console c.args.console.now) (console c.tell.new.console) c.tell.result (none_told words command shelf v w NoMemory) told) c.tell.ensures.answer
+
 pub returns-clause-any_moment : goal.returns-clause-any_moment
 returns-clause-any_moment g c =
     let v = g.D.Disk.view c.args.disk.now in
-    stays_moments v (g.D.Disk.view c.come_to-came.new.disk) v.may_leave (g.met.D.Disk.tells_all c.args.disk.now) c.come_to-came.ensures.stays (λ t s left. left)
-
-pub returns-clause-no_image_lost : goal.returns-clause-no_image_lost
-returns-clause-no_image_lost g c =
-    let v = g.D.Disk.view c.args.disk.now in
-    λ can newest j here. stays_moments v (g.D.Disk.view c.come_to-came.new.disk) (λ s. j ≤ newest s) (g.met.D.Disk.tells_all c.args.disk.now) c.come_to-came.ensures.stays here
+    (λ kept. stays_moments v (g.D.Disk.view c.come_to-came.new.disk) v.may_leave (g.met.D.Disk.tells_all c.args.disk.now) (c.come_to-came.ensures.stays kept) (λ t s left. left), c.come_to-came.ensures.moments)
 
 pub returns-clause-untouched : goal.returns-clause-untouched
 returns-clause-untouched g c =
     let v = g.D.Disk.view c.args.disk.now in
-    (λ quiet. subst (λ d. Untouched v (g.D.Disk.view d)) (sym (c.come_to-came.ensures.quiet quiet)) (untouched_still v), λ kept. stays_lasting v (g.D.Disk.view c.come_to-came.new.disk) c.come_to-came.ensures.stays)
+    let w = g.D.Disk.view c.come_to-came.new.disk in
+    let words = c.args.words.now.items in (
+      λ quiet. subst (λ d. Untouched v (g.D.Disk.view d)) (sym (c.come_to-came.ensures.quiet quiet)) (untouched_still v),
+      ⊎_elim (λ kept. stays_lasting v w (c.come_to-came.ensures.stays kept)) (λ not. lasts_refused words (command_of words) (sight (g.H.Shelf.view c.args.shelf.now)) (sight (g.H.Shelf.view c.come_to-came.new.shelf)) v w c.come_to-came.result c.tell.result c.come_to-came.ensures.answer c.come_to-came.ensures.keeps c.come_to-came.ensures.stays c.tell.ensures.fixed c.tell.ensures.at_hand not),
+    )
+
+pub returns-clause-lasting : goal.returns-clause-lasting
+returns-clause-lasting g c =
+    let w = g.D.Disk.view c.come_to-came.new.disk in
+    let command = command_of c.args.words.now.items in
+    let console = g.K.Sink.view in
+    ⊎_elim (λ told. output_lasting command w c.come_to-came.result (console c.args.console.now) (console c.tell.new.console) c.tell.result c.come_to-came.ensures.lasting told)
+    (λ told. output_lasting command w (Err NoMemory) (console c.args.console.now) (console c.tell.new.console) c.tell.result (λ lives. tt) told) c.tell.ensures.answer
 
 pub returns-clause-blamed_disk : goal.returns-clause-blamed_disk
 returns-clause-blamed_disk g c = blamed_disk c.come_to-came.result _ _ c.tell.result c.come_to-came.ensures.count c.tell.ensures.fixed
@@ -36,8 +55,9 @@ returns-clause-complete g c =
     let console = g.K.Sink.view in
     let disk = g.D.Disk.view in
     let words = c.args.words.now.items in
-    let at = complete words (command_of words) (shelf c.args.shelf.now) (shelf c.come_to-came.new.shelf) (plate (disk c.args.disk.now)) (plate (disk c.come_to-came.new.disk)) (console c.args.console.now) (console c.tell.new.console) c.tell.result in
-    ⊎_elim (λ told. at c.come_to-came.result c.come_to-came.ensures.answer told) (λ told. at (Err NoMemory) tt told) c.tell.ensures.answer
+    let at = complete c.standing_stores_are_accepted.ensures words (command_of words) (shelf c.args.shelf.now) (shelf c.come_to-came.new.shelf) (disk c.args.disk.now) (disk c.come_to-came.new.disk) (console c.args.console.now) (console c.tell.new.console) c.tell.result in
+    let stays = λ told. (g.met.D.Disk.lawful c.args.disk.now told).seen_stays in
+    ⊎_elim (λ told. at c.come_to-came.result stays c.come_to-came.ensures.answer told) (λ told. at (Err NoMemory) stays tt told) c.tell.ensures.answer
 
 pub returns-clause-steady : goal.returns-clause-steady
-returns-clause-steady g c = (calm_later c.come_to-came.result (sight (g.H.Shelf.view c.args.shelf.now)) (sight (g.H.Shelf.view c.come_to-came.new.shelf)) c.come_to-came.ensures.calm, c.come_to-came.ensures.stays.steady)
+returns-clause-steady g c = (calm_later c.come_to-came.result (sight (g.H.Shelf.view c.args.shelf.now)) (sight (g.H.Shelf.view c.come_to-came.new.shelf)) c.come_to-came.ensures.calm, c.come_to-came.ensures.keeps.steady)
