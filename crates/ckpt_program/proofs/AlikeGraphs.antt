@@ -8,7 +8,7 @@ use Rattle.path_laws.specs.declared.graph.Mark.{Mark}
 use Rattle.path_laws.specs.declared.graph.Mark.TheVariants.{Plain}
 use Rattle.path_laws.specs.declared.graph.Node.{Node}
 use Rattle.path_laws.specs.Edge.{is_at}
-use Rattle.path_laws.specs.Graph.{Graph, next_of, mark_of, may_read, may_write, kills, has_edge, is_checkpoint, is_exclude, is_directive, mark_is_checkpoint, mark_is_exclude, mark_is_directive, exclude_count}
+use Rattle.path_laws.specs.Graph.{Graph, next_of, mark_of, may_read, may_write, kills, has_edge, mark_is_checkpoint, mark_is_exclude, mark_is_directive, exclude_count}
 use Rattle.path_laws.specs.Walks.{IsWalkFrom, last_of, NoExclude}
 use Rattle.path_laws.specs.Forgettable.{ReadsUnkilled, IsForgettable}
 use Rattle.cell_sets.specs.Sets.{Cells}

@@ -19,7 +19,6 @@ use Rattle.disk_model.specs.Plate.{plate}
 use Rattle.disk_model.specs.View.{View}
 use Rattle.ckpt_program.specs.Sight.{sight}
 use Rattle.ckpt_program.specs.Stage.{Comes}
-use Rattle.ckpt_program.specs.Accepted.{Accepted}
 use Rattle.ckpt_program.specs.Listed.{IsListing}
 use Rattle.ckpt_program.specs.Report.{IsReport}
 use Rattle.ckpt_program.specs.Rows.{IsCounted, Counted, Evaluated, Printed}

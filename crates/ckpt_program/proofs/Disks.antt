@@ -1,5 +1,5 @@
 -- What commands keep of a disk.
-use Rattle.std.proofs.Common.{◌≡◌, ◌<◌, ◌≤◌, ◌-◌, ◌^◌, inl, inr, ⊎_elim, refl, sym, ◌∙◌, subst, ℕ, IsTrue, Result, Ok, Err, arith}
+use Rattle.std.proofs.Common.{◌≡◌, ◌<◌, ◌-◌, ◌^◌, inl, inr, ⊎_elim, refl, sym, subst, ℕ, IsTrue, Result, Ok, Err, arith}
 use Rattle.ckpt_base.specs.Faults.{Rose}
 use Rattle.disk_model.specs.Store.{Store}
 use Rattle.disk_model.specs.View.{View, IsDisk}
@@ -45,7 +45,7 @@ not_risen old new same rose below = omega (arith, same, rose, below)
 pub blamed_disk : (came : Result Done Stop) (old new result : ℕ) → CalmDisk came old new → (HasFixedLine came → result ≡ status_of came) → Blames 5 old new result
 blamed_disk (Ok d) old new result calm told = λ rose below. absurd (not_risen old new calm rose below)
 blamed_disk (Err NoMemory) old new result calm told = λ rose below. absurd (not_risen old new calm rose below)
-blamed_disk (Err (Because cause.DiskFault)) old new result calm told = λ rose below. told tt
+blamed_disk (Err (Because cause.DiskFault)) old new result calm told = λ rose below. told refl
 blamed_disk (Err (Because cause.Usage)) old new result calm told = λ rose below. absurd (not_risen old new calm rose below)
 blamed_disk (Err (Because cause.ShelfFault)) old new result calm told = λ rose below. absurd (not_risen old new calm rose below)
 blamed_disk (Err (Because (cause.Refused r))) old new result calm told = λ rose below. absurd (not_risen old new calm rose below)

@@ -1,5 +1,5 @@
 -- What the status tells of the disk: where a command was refused its contents stay, and where a life was told it ended as its source.
-use Rattle.std.proofs.Common.{◌≡◌, ◌⊎◌, ◌++◌, inl, inr, ⊎_elim, ◌∙◌, sym, ap, subst, ℕ, List, Option, Some, None, Result, Ok, Err, OnOk, arith}
+use Rattle.std.proofs.Common.{◌≡◌, ◌⊎◌, ◌++◌, refl, inl, inr, ⊎_elim, ◌∙◌, sym, ap, subst, ℕ, List, Option, Some, None, Result, Ok, Err, OnOk, arith}
 use Rattle.ckpt_base.specs.Sink.{SinkView}
 use Rattle.ckpt_base.specs.declared.ending.Ending.{Ending}
 use Rattle.ckpt_base.specs.declared.ending.Ending.TheVariants as ending
@@ -53,7 +53,7 @@ lasts_stopped : (e : Stop) (v w : View) (result : ℕ) → KeepsRefused {A = Don
 lasts_stopped NoMemory v w result keeps fixed not = keeps.changes
 lasts_stopped (Because cause.Usage) v w result keeps fixed not = keeps.changes
 lasts_stopped (Because (cause.Refused r)) v w result keeps fixed not = keeps.changes
-lasts_stopped (Because cause.DiskFault) v w result keeps fixed not = absurd (not (inr (fixed tt)))
+lasts_stopped (Because cause.DiskFault) v w result keeps fixed not = absurd (not (inr (fixed refl)))
 lasts_stopped (Because cause.ShelfFault) v w result keeps fixed not = keeps.changes
 lasts_stopped (Because (cause.TooLarge d)) v w result keeps fixed not = keeps.changes
 lasts_stopped (Because (cause.Damaged file place)) v w result keeps fixed not = keeps.changes
@@ -64,7 +64,7 @@ lasts_stopped (Because (cause.Behind bound step)) v w result keeps fixed not = k
 
 lasts_lived : (source input : List ℕ) (a : Asked) (old new : Sight) (v w : View) (o : Result Done Stop) (result : ℕ) → Comes (Lives source input a old new (plate v) (plate w)) o → KeepsRefused o v w
     → (HasFixedLine o → result ≡ status_of o) → (HasTextAtHand o → IsDone result) → ((IsDone result ⊎ (result ≡ 5)) → ⊥) → OnlyLasting v w
-lasts_lived source input a old new v w (Ok d) result came keeps fixed at_hand not = let lived = came.2.2.2.2 in absurd (not (inl (at_hand (told_at_hand lived.0 d lived.2))))
+lasts_lived source input a old new v w (Ok d) result came keeps fixed at_hand not = let lived = came.2.2.2 in absurd (not (inl (at_hand (told_at_hand lived.0 d lived.2))))
 lasts_lived source input a old new v w (Err e) result came keeps fixed at_hand not = lasts_stopped e v w result keeps fixed not
 
 pub lasts_refused : (words : List (List ℕ)) (c : Option Command) (old new : Sight) (v w : View) (o : Result Done Stop) (result : ℕ) → Comes (CarriesSome words c old new (plate v) (plate w)) o → KeepsRefused o v w → (KeepsContents c → Stays v w)

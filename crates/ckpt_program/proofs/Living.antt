@@ -156,7 +156,7 @@ keeps_stopped u v w e stays keeps = record { steady = steady_twice u v w stays.s
 
 -- a store that stood stands where the contents stayed
 stand_on : (s : RunSource) (u v : View) → IsTrue u.tells → Stays u v → AllStand s u → AllStand s v
-stand_on s u v told stays stand c left = stand c ((stays.any_moment told).now (subst IsTrue (sym stays.steady.tells) told) c left)
+stand_on s u v told stays stand c left = stand c ((stays.any_moment told).now told c left)
 
 pub standing_stays : (Is : RunSource → Type 0) (u v : View) → (IsTrue u.tells_past → IsTrue u.tells) → Stays u v → StandThroughout Is u v
 standing_stays Is u v all stays told s is stand = stays_moments u v (Stands s) all stays (λ t c left. stand c left)
@@ -173,7 +173,7 @@ standing_lived g u v w all stays lives told s is stand =
 pub images_lived : (u v w : View) → (IsTrue u.tells_past → IsTrue u.tells) → Stays u v → KeepsImages v w → KeepsImages u w
 images_lived u v w all stays lives told j later =
     let first = images_stay u v all stays told j later in
-    joined u v w (IsLater j) (IsLater j) all first (lives (subst IsTrue (sym stays.steady.tells) told) j (λ c left. first.now (subst IsTrue (sym stays.steady.tells) told) c left)) (λ _ c h. h)
+    joined u v w (IsLater j) (IsLater j) all first (lives (subst IsTrue (sym stays.steady.tells) told) j (λ c left. first.now told c left)) (λ _ c h. h)
 
 -- ---- the end
 

@@ -1,5 +1,5 @@
 -- What is told of a disk that is only looked at, and why the records of its store are not listed.
-use Rattle.std.proofs.Common.{◌≡◌, ◌≤◌, refl, sym, ◌∙◌, ap, subst, ℕ, Bool, true, false, IsTrue, List, Option, Some, None, Result, Ok, Err}
+use Rattle.std.proofs.Common.{◌≡◌, ◌≤◌, refl, sym, ◌∙◌, ap, subst, ℕ, Bool, true, false, IsTrue, List, Option, Some, Result, Err}
 use Rattle.disk_model.specs.Store.{Store}
 use Rattle.disk_model.specs.View.{View, IsDisk, Looks}
 use Rattle.disk_model.specs.Plate.{Plate, told, plate}

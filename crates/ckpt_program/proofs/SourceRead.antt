@@ -1,5 +1,5 @@
 -- A source that was read, and then accepted or not.
-use Rattle.std.proofs.Common.{◌≡◌, sym, ◌∙◌, subst, ◌⊎◌, inr, ℕ, List, Result, Ok, Err}
+use Rattle.std.proofs.Common.{◌≡◌, sym, ◌∙◌, subst, inr, ℕ, List, Result, Ok, Err}
 use Rattle.c_types.specs.Check.{checked}
 use Rattle.c_tree.specs.declared.resolved.Resolved.{Resolved}
 use Rattle.ckpt_program.specs.Sight.{Sight}

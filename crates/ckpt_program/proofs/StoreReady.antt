@@ -1,5 +1,6 @@
 -- Where a store is as it should be and nothing fails, a command that uses it is carried out.
-use Rattle.std.proofs.Common.{◌≡◌, ◌⊎◌, ◌++◌, ◌<◌, ◌∙◌, refl, sym, ap, subst, inl, inr, ⊎_elim, ℕ, List, Bool, true, IsTrue, Option, Some, Result, Ok, Err, arith}
+use Rattle.std.proofs.Common.{◌≡◌, ◌⊎◌, ◌++◌, ◌<◌, ◌∙◌, refl, sym, ap, subst, inl, inr, ⊎_elim, ℕ, List, Bool, true, false, IsTrue, Option, Some, Result, Ok, Err, arith}
+use Rattle.std.proofs.lemmas.Bool.{false≢true}
 use Rattle.ckpt_base.specs.Faults.{Rose}
 use Rattle.ckpt_base.specs.Shelf.{ShelfView}
 use Rattle.ckpt_base.specs.Sink.{SinkView}
@@ -18,6 +19,7 @@ use Rattle.ckpt_runner.specs.Standing.{IsGivenSource}
 use Rattle.ckpt_runner.specs.declared.how.Mode.TheVariants as mode
 use Rattle.ckpt_runner.specs.declared.started.OpenFault.{OpenFault}
 use Rattle.ckpt_runner.specs.declared.started.OpenFault.TheVariants as opening
+use Rattle.accepted_stores.specs.Accepted.{MayRefuse}
 use Rattle.ckpt_program.specs.Accepted.{Accepted}
 use Rattle.ckpt_program.specs.DiskStages.{FailsEntry, FailsListing, IsListed}
 use Rattle.ckpt_program.specs.Headline.{IsSourceOf}
@@ -43,7 +45,8 @@ use Rattle.ckpt_program.proofs.Running.{source_read, source_given}
 use Rattle.ckpt_program.proofs.ShelfReady.{IsCarriedOut, file_found, file_not_failing, not_refused}
 
 told_seen : (b : Bool) (s : Store) → IsTrue b → told b s ≡ Some s
-told_seen true s yes = refl
+told_seen true s tells = refl
+told_seen false s tells = absurd (false≢true tells)
 
 -- the disk did not fail
 entry_not_failing : (disk disk_new : Plate) (c : Cause) → (Rose disk.faults disk_new.faults → ⊥) → FailsEntry disk disk_new c → ⊥
@@ -96,11 +99,9 @@ with_store disk disk_new chain (Err (Because c)) has came =
 
 -- ---- a life
 
--- a store that stands for a source is not damaged, nor of another source or input
-pub record Accepts : Type 0 where
-  pub whole : (g : Given) (s : RunSource) (c : Store) (file : _) (place : ℕ) → IsGivenSource g s → Stands s c → Refuses (opening.Damaged file place) g c → ⊥
-  pub source : (g : Given) (s : RunSource) (c : Store) (kept given : List ℕ) → IsGivenSource g s → Stands s c → Refuses (opening.OtherSource kept given) g c → ⊥
-  pub input : (g : Given) (s : RunSource) (c : Store) (kept given : List ℕ) → IsGivenSource g s → Stands s c → Refuses (opening.OtherInput kept given) g c → ⊥
+-- a store that stands for a source is accepted with it
+abbrev pub Accepts : Type 0
+Accepts = (g : Given) (s : RunSource) (c : Store) (f : OpenFault) → IsGivenSource g s → Stands s c → Refuses f g c → MayRefuse f g c
 
 -- for which causes a life may still be stopped
 abbrev pub StopsFor : Asked → Store → Cause → Type 0
@@ -114,17 +115,17 @@ module _ (law : Accepts) (s : RunSource) (v w : View) (compiled : _) (marks : _)
   unfolding FailsLife
   stops_for opening.Memory c is fails = absurd (cc is)
   stops_for opening.Failed c is fails = absurd (count fails)
-  stops_for (opening.Damaged file place) c is fails = absurd (law.whole (given_with compiled marks bytes a) s v.seen file place given stand (fails v.seen (told_seen v.tells v.seen told_it)))
-  stops_for (opening.OtherSource kept of) c is fails = absurd (law.source (given_with compiled marks bytes a) s v.seen kept of given stand (fails v.seen (told_seen v.tells v.seen told_it)))
-  stops_for (opening.OtherInput kept of) c is fails = absurd (law.input (given_with compiled marks bytes a) s v.seen kept of given stand (fails v.seen (told_seen v.tells v.seen told_it)))
+  stops_for (opening.Damaged file place) c is fails = absurd (law (given_with compiled marks bytes a) s v.seen (opening.Damaged file place) given stand (fails v.seen (told_seen v.tells v.seen told_it)))
+  stops_for (opening.OtherSource kept of) c is fails = absurd (law (given_with compiled marks bytes a) s v.seen (opening.OtherSource kept of) given stand (fails v.seen (told_seen v.tells v.seen told_it)))
+  stops_for (opening.OtherInput kept of) c is fails = absurd (law (given_with compiled marks bytes a) s v.seen (opening.OtherInput kept of) given stand (fails v.seen (told_seen v.tells v.seen told_it)))
   stops_for (opening.Occupied image step) c is fails =
       let why = fails v.seen (told_seen v.tells v.seen told_it) in
       let same : cause.Occupied image step ≡ c = cc is in
       subst (StopsFor a v.seen) same (why.0, why.1, why.2, why.3, why.4, why.5)
   stops_for (opening.Behind bound step) c is fails =
-      let why = fails v.seen (told_seen v.tells v.seen told_it) in
+      let why = law (given_with compiled marks bytes a) s v.seen (opening.Behind bound step) given stand (fails v.seen (told_seen v.tells v.seen told_it)) in
       let same : cause.Behind bound step ≡ c = cc is in
-      subst (StopsFor a v.seen) same (why.0, why.1, why.2.has, why.2.mode, why.3, why.4, why.5)
+      subst (StopsFor a v.seen) same (why.0, why.1, why.2, why.3, why.4, why.5, why.6)
 
 -- the files of the job are there
 job_not_failing : (source input : List ℕ) (v w : ShelfView) (disk disk_new : View) (c : Cause) → IsTrue v.tells → (Rose v.faults w.faults → ⊥) → CanLive source input v disk disk_new → ReadsJob source input (sight v) (sight w) (Err c) → ⊥
@@ -134,7 +135,7 @@ job_not_failing source input v w disk disk_new c tells calm can came =
     ⊎_elim (λ fails. absurd (file_not_failing document.Source source v w c can.is.text tells calm has fails)) (λ read.
     let same = file_found document.Source source v read.0.list can.is.text read.1 tells has in
     ⊎_elim (λ refused. absurd (not_refused can.is.text can.of.program c can.is.accepted (subst (λ (t : List ℕ). Accepted t (Err c)) same refused))) (λ accepted.
-    ⊎_elim (λ fails. absurd (file_not_failing document.Input input v w c can.of.input tells calm given fails)) (λ got. absurd got.2) accepted.2.2) read.2) came
+    ⊎_elim (λ fails. absurd (file_not_failing document.Input input v w c can.of.input tells calm given fails)) (λ got. absurd got.2) accepted.2) read.2) came
 
 -- the life is told, or there is no memory, or it is stopped for one of those causes
 abbrev pub IsLived : Asked → Store → Result Done Stop → Type 0
@@ -151,7 +152,7 @@ lived_status l (done.Printed t) tells = absurd tells
 
 pub with_life : Accepts → (source input : List ℕ) (a : Asked) (v w : ShelfView) (disk disk_new : View) (o : Result Done Stop) → IsTrue v.tells → (Rose v.faults w.faults → ⊥) → (IsTrue disk.tells → disk.may_leave disk.seen)
     → CanLive source input v disk disk_new → Comes (Lives source input a (sight v) (sight w) (plate disk) (plate disk_new)) o → IsLived a disk.seen o
-with_life law source input a v w disk disk_new (Ok d) tells calm stays can came = let lived = came.2.2.2.2 in lived_status lived.0 d lived.2
+with_life law source input a v w disk disk_new (Ok d) tells calm stays can came = let lived = came.2.2.2 in lived_status lived.0 d lived.2
 with_life law source input a v w disk disk_new (Err NoMemory) tells calm stays can came = tt
 with_life law source input a v w disk disk_new (Err (Because c)) tells calm stays can came =
     ⊎_elim (λ unread. absurd (job_not_failing source input v w disk disk_new c tells calm can unread)) (λ read.
@@ -167,7 +168,7 @@ with_life law source input a v w disk disk_new (Err (Because c)) tells calm stay
 -- ---- what is told of it
 
 begun_stop : (disk : View) (settings : Settings) (c : Cause) → StopsFor (to_begin settings) disk.seen c → (status_of (Err (Because c)) ≡ 10) × TellsOccupied disk.seen (text_of (Err (Because c)))
-begun_stop disk settings (cause.Occupied image step) stops = (refl, stops.0, stops.1, stops.2, ap (λ (n : ℕ). occupied_line n step) stops.4 ∙ ap (λ (n : ℕ). occupied_line stops.1.number n) stops.5)
+begun_stop disk settings (cause.Occupied image step) stops = (refl, (stops.0, stops.1, stops.2, ap (λ (n : ℕ). occupied_line n step) stops.4 ∙ ap (λ (n : ℕ). occupied_line stops.1.number n) stops.5))
 begun_stop disk settings (cause.Behind bound step) stops = let both : mode.Run ≡ mode.Restart = stops.3 in absurd (cc both)
 begun_stop disk settings cause.Usage stops = absurd stops
 begun_stop disk settings (cause.Refused r) stops = absurd stops

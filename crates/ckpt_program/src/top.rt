@@ -23,6 +23,7 @@ use crate::plain::plain;
 use crate::report::report;
 use crate::stop::{Cause, Stop};
 use crate::telling::tell;
+use accepted_stores::standing_stores_are_accepted;
 use ckpt_base::{Shelf, Sink, Text};
 use ckpt_runner::Mode;
 use command_words::{Command, read_words};
@@ -56,6 +57,7 @@ pub fn ckpt<H: Shelf, D: Disk, K: Sink>(
     ensures blamed_disk { Blames 5 (D.view disk.old).faults (D.view disk.new).faults result }
     ensures complete { Complete words.now.items (command_of words.now.items) (H.view shelf.old) (H.view shelf.new) (D.view disk.old) (D.view disk.new) (K.view console.old) (K.view console.new) result }
 {
+    standing_stores_are_accepted();
     let came = come_to(alloc, words, shelf, disk);
     tell(alloc, console, &came)
 }

@@ -1,15 +1,13 @@
-use Rattle.std.proofs.Common.{refl, subst, ℕ, List, Some}
-use Rattle.command_words.specs.Words.{HasRanges}
+use Rattle.std.proofs.Common.{subst, ℕ, List}
 use Rattle.disk_model.specs.Plate.{plate}
 use Rattle.ckpt_program.specs.Carries.{word_at}
-use Rattle.ckpt_program.specs.Headline.{SourceOf, IsSourceIn, StandThroughout, ToldAsSource}
 use Rattle.ckpt_program.specs.LifeRow as life
 use Rattle.ckpt_program.specs.LifeStages.{to_begin, to_go_on}
 use Rattle.ckpt_program.specs.Rows as row
 use Rattle.ckpt_program.specs.Sight.{sight}
 use Rattle.ckpt_program.specs.Stage.{Comes}
 use Rattle.ckpt_program.proofs.Disks.{stays_still, calm_still, calm_disk_still}
-use Rattle.ckpt_program.proofs.Living.{keeps_still, keeps_stays, standing_stays, images_stay}
+use Rattle.ckpt_program.proofs.Living.{keeps_still, keeps_stays, images_stay}
 use Rattle.ckpt_program.proofs.Running.{named_stand, told_run, told_restart}
 use Rattle.ckpt_program.proofs.top.carry.Goals as goal
 
@@ -142,9 +140,6 @@ returns-in-Images-clause-told g c = rw c.in-Images.is tt
 pub returns-in-Images-clause-lasting : goal.returns-in-Images-clause-lasting
 returns-in-Images-clause-lasting g c = rw c.in-Images.is (λ lives. absurd (lives tt))
 
-pub live_job-requires-clause-ranges : goal.live_job-requires-clause-ranges
-live_job-requires-clause-ranges g c = subst HasRanges c.in-Run.is c.requires.ranges
-
 pub returns-in-Run-clause-answer : goal.returns-in-Run-clause-answer
 returns-in-Run-clause-answer g c =
     let view = g.H.Shelf.view in
@@ -165,9 +160,6 @@ returns-in-Run-clause-moments g c =
 pub returns-in-Run-clause-told : goal.returns-in-Run-clause-told
 returns-in-Run-clause-told g c =
     rw c.in-Run.is (told_run c.args.words.now (sight (g.H.Shelf.view c.args.shelf.now)) (g.D.Disk.view c.args.disk.now) (g.D.Disk.view c.live_job.new.disk) c.live_job.result c.in-Run.source c.in-Run.input c.in-Run.dir c.in-Run.settings c.word-in-Run.result.now c.word-in-Run-2.result.now c.word-in-Run.ensures.answer c.word-in-Run-2.ensures.answer c.live_job.ensures.told)
-
-pub live_job-in-Restart-requires-clause-ranges : goal.live_job-in-Restart-requires-clause-ranges
-live_job-in-Restart-requires-clause-ranges g c = subst HasRanges c.in-Restart.is c.requires.ranges
 
 pub returns-in-Restart-clause-answer : goal.returns-in-Restart-clause-answer
 returns-in-Restart-clause-answer g c =

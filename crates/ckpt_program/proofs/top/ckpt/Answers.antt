@@ -1,7 +1,6 @@
 use Rattle.std.proofs.Common.{⊎_elim, Err, sym, subst}
 use Rattle.command_words.specs.Words.{command_of}
 use Rattle.disk_model.specs.Keeps.{Untouched}
-use Rattle.disk_model.specs.Plate.{plate}
 use Rattle.disk_model.proofs.Keeping.{untouched_still}
 use Rattle.ckpt_program.specs.Sight.{sight}
 use Rattle.ckpt_program.specs.declared.stop.Stop.TheVariants.{NoMemory}
@@ -55,9 +54,8 @@ returns-clause-complete g c =
     let console = g.K.Sink.view in
     let disk = g.D.Disk.view in
     let words = c.args.words.now.items in
-    let at = complete c.standing_stores_are_accepted.ensures words (command_of words) (shelf c.args.shelf.now) (shelf c.come_to-came.new.shelf) (disk c.args.disk.now) (disk c.come_to-came.new.disk) (console c.args.console.now) (console c.tell.new.console) c.tell.result in
-    let stays = λ told. (g.met.D.Disk.lawful c.args.disk.now told).seen_stays in
-    ⊎_elim (λ told. at c.come_to-came.result stays c.come_to-came.ensures.answer told) (λ told. at (Err NoMemory) stays tt told) c.tell.ensures.answer
+    let at = complete c.standing_stores_are_accepted.ensures.law words (command_of words) (shelf c.args.shelf.now) (shelf c.come_to-came.new.shelf) (disk c.args.disk.now) (disk c.come_to-came.new.disk) (console c.args.console.now) (console c.tell.new.console) c.tell.result in
+    ⊎_elim (λ told. at c.come_to-came.result (λ told_it. (g.met.D.Disk.lawful c.args.disk.now told_it).seen_stays) c.come_to-came.ensures.answer told) (λ told. at (Err NoMemory) (λ told_it. (g.met.D.Disk.lawful c.args.disk.now told_it).seen_stays) tt told) c.tell.ensures.answer
 
 pub returns-clause-steady : goal.returns-clause-steady
 returns-clause-steady g c = (calm_later c.come_to-came.result (sight (g.H.Shelf.view c.args.shelf.now)) (sight (g.H.Shelf.view c.come_to-came.new.shelf)) c.come_to-came.ensures.calm, c.come_to-came.ensures.keeps.steady)

@@ -1,4 +1,5 @@
 use Rattle.std.proofs.Common.{Err}
+use Rattle.std.proofs.lemmas.Result.{err_from_is_err_and}
 use Rattle.ckpt_program.specs.Headline.{SourceOf}
 use Rattle.ckpt_program.specs.declared.done.Done.{Done}
 use Rattle.ckpt_program.specs.declared.stop.Cause.TheVariants as cause
@@ -39,3 +40,10 @@ returns-in_err-command-clause-later g c = let v = g.D.Disk.view c.args.disk.now 
 
 pub returns-in-None-clause-later : goal.returns-in-None-clause-later
 returns-in-None-clause-later g c = let v = g.D.Disk.view c.args.disk.now in images_stay v v (g.met.D.Disk.tells_all c.args.disk.now) (stays_still v (g.met.D.Disk.lawful c.args.disk.now))
+
+pub returns-in_err-command-clause-told : goal.returns-in_err-command-clause-told
+returns-in_err-command-clause-told g c =
+    let v = g.D.Disk.view c.args.disk.now in
+    let words = c.args.words.now.items in
+    let told = err_from_is_err_and c.from_residual.result c.from_residual.ensures.1 in
+    rw told.1 (none_told words (command_of words) (sight (g.H.Shelf.view c.args.shelf.now)) v v told.0)
