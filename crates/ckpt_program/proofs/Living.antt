@@ -192,6 +192,6 @@ told_as_source compiled marks input a u v w l d stays lives tells = λ told s is
       every = came.origin.taking.every;
       starts = starts_in compiled marks input a u.seen l.started came.origin (subst (λ (c : Store). Opens (given_with compiled marks input a) c l.started came.origin) (stays.same told) came.opens);
       tells = subst (λ (n : ℕ). TellsLife (record { started = l.started; ending = (run_of s a.settings.until).ending; steps = n }) d) came.steps
-      (subst (λ (e : Ending). TellsLife (record { started = l.started; ending = e; steps = l.steps }) d) came.ending tells);
+          (subst (λ (e : Ending). TellsLife (record { started = l.started; ending = e; steps = l.steps }) d) came.ending tells);
       store = came.store;
     }

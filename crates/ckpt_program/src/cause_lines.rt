@@ -51,7 +51,12 @@ fn occupied_line(alloc: Global, image: u32, step: u64) -> Result<Vec<u8>, AllocE
 }
 
 // An image of another source, or of another input.
-fn other_line(alloc: Global, what: &str, kept: &[u8; 32], given: &[u8; 32]) -> Result<Vec<u8>, AllocError>
+fn other_line(
+    alloc: Global,
+    what: &str,
+    kept: &[u8; 32],
+    given: &[u8; 32],
+) -> Result<Vec<u8>, AllocError>
     ensures answer { IfOk result (λ t. t.items ≡ spec.other_line what.now kept.now given.now) }
 {
     let kept = hex::encode(alloc, kept)?;

@@ -6,8 +6,8 @@ use std::alloc::Global;
 use std::process::Abort;
 use std::test::Fail;
 
-/// How many calls on the disk are made to fail, one in each run. A run of P makes fewer.
-const CALLS: u64 = 64;
+/// How many calls of a run of P change the disk.
+const CHANGES: u64 = 23;
 
 // The files, on a shelf in memory.
 fn shelf(rt: &impl Abort, alloc: Global) -> Result<MemShelf, Fail> {
@@ -27,7 +27,13 @@ fn disk(alloc: Global, failing: Vec<u64>) -> Result<MemDisk, Fail> {
 }
 
 // Carries out a command line, and answers its status; the text is on the console.
-fn carry(rt: &impl Abort, alloc: Global, disk: &mut MemDisk, console: &mut MemSink, words: &[&str]) -> Result<u8, Fail> {
+fn carry(
+    rt: &impl Abort,
+    alloc: Global,
+    disk: &mut MemDisk,
+    console: &mut MemSink,
+    words: &[&str],
+) -> Result<u8, Fail> {
     let mut list = Vec::new(alloc);
     for word in words {
         list.push(Text::of(alloc, word)?)?;
@@ -81,32 +87,50 @@ fn words_of_lives(rt: HostRuntime) -> Result<(), Fail> {
     hold(&rt, rt.alloc(), USAGE.as_slice())
 }
 
-// Each call on the disk fails in turn: the run answers 5, and a restart over the same disk ends as it would have.
-#[test]
-fn calls_that_fail(rt: HostRuntime) -> Result<(), Fail> {
-    let alloc = rt.alloc();
-    let mut failed: u64 = 0;
-    for n in 1..CALLS {
+// The calls on the disk with these numbers fail, each in a run of its own: the run answers 5, and a restart over the same disk ends as the run would have. A run that meets no failure is the last.
+fn calls_fail(rt: &impl Abort, alloc: Global, first: u64, end: u64) -> Result<(), Fail> {
+    for n in first..end {
         let mut failing = Vec::new(alloc);
         failing.push(n)?;
         let mut disk = disk(alloc, failing)?;
         let mut console = MemSink::new(alloc, 1_000, Vec::new(alloc))?;
-        let came = carry(&rt, alloc, &mut disk, &mut console, &["run", "P", "E0", "D"])?;
+        let came = carry(rt, alloc, &mut disk, &mut console, &["run", "P", "E0", "D"])?;
         if came == 0 {
-            assert!(rt; failed + 1 == n, "only {failed} of the calls before call {n} failed");
-        } else {
-            assert!(rt; came == 5, "status {came} where call {n} fails");
-            assert!(rt; console.bytes() == b"disk fault\n");
-            failed = n;
-        }
-        let mut console = MemSink::new(alloc, 1_000, Vec::new(alloc))?;
-        let came = carry(&rt, alloc, &mut disk, &mut console, &["restart", "P", "E0", "D"])?;
-        assert!(rt; came == 0, "status {came} behind the failure of call {n}");
-        output_is(&rt, &mut disk, b"9\n")?;
-        if failed < n {
+            assert!(rt; n > CHANGES, "call {n} did not fail");
             return Ok(());
         }
+        assert!(rt; came == 5, "status {came} where call {n} fails");
+        assert!(rt; console.bytes() == b"disk fault\n".as_slice());
+        let mut console = MemSink::new(alloc, 1_000, Vec::new(alloc))?;
+        let came = carry(
+            rt,
+            alloc,
+            &mut disk,
+            &mut console,
+            &["restart", "P", "E0", "D"],
+        )?;
+        assert!(rt; came == 0, "status {came} behind the failure of call {n}");
+        output_is(rt, &mut disk, b"9\n")?;
     }
-    assert!(rt; false, "a run makes more calls");
     Ok(())
+}
+
+#[test]
+fn calls_of_opening_fail(rt: HostRuntime) -> Result<(), Fail> {
+    calls_fail(&rt, rt.alloc(), 1, 8)
+}
+
+#[test]
+fn calls_for_the_first_images_fail(rt: HostRuntime) -> Result<(), Fail> {
+    calls_fail(&rt, rt.alloc(), 8, 15)
+}
+
+#[test]
+fn calls_for_the_next_images_fail(rt: HostRuntime) -> Result<(), Fail> {
+    calls_fail(&rt, rt.alloc(), 15, 22)
+}
+
+#[test]
+fn calls_of_finishing_fail(rt: HostRuntime) -> Result<(), Fail> {
+    calls_fail(&rt, rt.alloc(), 22, 64)
 }
