@@ -8,7 +8,7 @@ use Rattle.ckpt_base.specs.declared.ending.Ending.{Ending}
 use Rattle.c_tree.specs.declared.resolved.Resolved.{Resolved}
 use Rattle.c_tree.specs.Meaning.{meaning}
 use Rattle.command_words.specs.declared.command.Command.{Command}
-use Rattle.command_words.specs.declared.command.Command.TheVariants.{Plain, Check, Compile, Report, Run, Restart, Images}
+use Rattle.command_words.specs.declared.command.Command.TheVariants.{Plain, Check, Compile, Report, Run, Restart, Images, Coalesce, Clear}
 use Rattle.ckpt_program.specs.declared.done.Counts.{Counts}
 use Rattle.ckpt_program.specs.declared.done.Done.{Done}
 use Rattle.ckpt_program.specs.declared.done.Done.TheVariants as done
@@ -28,6 +28,8 @@ use Rattle.ckpt_program.specs.Told.{Tells}
 use Rattle.ckpt_program.specs.LifeStages.{to_begin, to_go_on}
 use Rattle.ckpt_program.specs.Top.{Says, Complete}
 use Rattle.ckpt_program.proofs.ShelfReady.{IsCarriedOut, with_source, with_both}
+use Rattle.ckpt_program.specs.Upkeep.{TellsCleared}
+use Rattle.ckpt_program.proofs.Ordering.{TellsOf, with_joining, joining_said, with_clearing, clearing_said}
 use Rattle.ckpt_program.proofs.StoreReady.{Accepts, TellsChain, with_store, with_life, begun_said, gone_on_said}
 
 -- ---- what is told
@@ -50,6 +52,7 @@ counts_said tree (done.Accepted c) is = (refl, c, is, refl)
 counts_said tree (done.Finished r) is = absurd is
 counts_said tree (done.Printed t) is = absurd is
 counts_said tree (done.Told t) is = absurd is
+counts_said tree (done.Noted t) is = absurd is
 
 pub text_said : (IsText : List ℕ → Type 0) (d : Done) → Printed IsText d → (done_status d ≡ 0) × IsText (done_text d)
 unfolding Printed
@@ -57,6 +60,7 @@ text_said IsText (done.Printed t) is = (refl, is)
 text_said IsText (done.Accepted c) is = absurd is
 text_said IsText (done.Finished r) is = absurd is
 text_said IsText (done.Told t) is = absurd is
+text_said IsText (done.Noted t) is = absurd is
 
 pub run_said : (tree : Resolved) (input : List ℕ) (until : ℕ) (d : Done) → Evaluated tree input until d → let m = meaning tree input until in (done_status d ≡ ending_status m.ending) × (done_text d ≡ run_text (run.output m.events) m.ending m.ticks)
 unfolding Evaluated
@@ -66,6 +70,7 @@ run_said tree input until (done.Finished r) is =
 run_said tree input until (done.Accepted c) is = absurd is
 run_said tree input until (done.Printed t) is = absurd is
 run_said tree input until (done.Told t) is = absurd is
+run_said tree input until (done.Noted t) is = absurd is
 
 -- ---- the clause
 
@@ -98,3 +103,9 @@ complete law words (Some (Restart source input dir settings fill)) v w disk disk
 complete law words (Some (Images dir)) v w disk disk_new k l result o stays came told = λ job ready well.
     told_well (Says (Some (Images dir)) job disk) (TellsChain job.chain) o k l result (whole_text o k l result told well.console_tells well.console_count) (λ d is. is)
     (with_store disk disk_new job.chain o ready came)
+complete law words (Some (Coalesce dir)) v w disk disk_new k l result o stays came told = λ job ready well.
+    told_well (Says (Some (Coalesce dir)) job disk) (TellsOf disk.seen) o k l result (whole_text o k l result told well.console_tells well.console_count) (joining_said disk.seen)
+    (with_joining disk disk_new job.chain o ready came)
+complete law words (Some (Clear dir)) v w disk disk_new k l result o stays came told = λ job ready well.
+    told_well (Says (Some (Clear dir)) job disk) TellsCleared o k l result (whole_text o k l result told well.console_tells well.console_count) clearing_said
+    (with_clearing (plate disk) (plate disk_new) o ready came)

@@ -1,25 +1,28 @@
 -- What the status tells of the disk: where a command was refused its contents stay, and where a life was told it ended as its source.
-use Rattle.std.proofs.Common.{◌≡◌, ◌⊎◌, ◌++◌, refl, inl, inr, ⊎_elim, ◌∙◌, sym, ap, subst, ℕ, List, Option, Some, None, Result, Ok, Err, OnOk, arith}
+use Rattle.std.proofs.Common.{◌≡◌, ◌⊎◌, ◌++◌, refl, inl, inr, ⊎_elim, ◌∙◌, sym, ap, subst, ℕ, IsTrue, List, Option, Some, None, Result, Ok, Err, OnOk, arith}
 use Rattle.ckpt_base.specs.Sink.{SinkView}
 use Rattle.ckpt_base.specs.declared.ending.Ending.{Ending}
 use Rattle.ckpt_base.specs.declared.ending.Ending.TheVariants as ending
 use Rattle.command_words.specs.declared.command.Command.{Command}
-use Rattle.command_words.specs.declared.command.Command.TheVariants.{Plain, Check, Compile, Report, Run, Restart, Images}
+use Rattle.command_words.specs.declared.command.Command.TheVariants.{Plain, Check, Compile, Report, Run, Restart, Images, Coalesce, Clear}
 use Rattle.disk_model.specs.Store.{Store}
 use Rattle.disk_model.specs.View.{View}
-use Rattle.disk_model.specs.Plate.{plate}
+use Rattle.disk_model.specs.Plate.{Plate, plate}
 use Rattle.run_images.specs.Source.{Source as RunSource}
 use Rattle.one_life.specs.declared.living.Lived.{Lived}
 use Rattle.ckpt_program.specs.Carries.{word_at, CarriesSome}
 use Rattle.ckpt_program.specs.DiskStages.{OnlyLasting, Stays}
-use Rattle.ckpt_program.specs.Headline.{IsSourceIn, TellsSource, ToldAsSource, ToldBy, HasEnded, EndsIn, EndsAsSource}
+use Rattle.ckpt_program.specs.Headline.{IsSourceIn, TellsSource, ToldAsSource, ToldBy, HasEnded, EndsIn, EndsAsSource, PutsInOrder}
 use Rattle.ckpt_program.specs.LifeRow.{Lives}
 use Rattle.ckpt_program.specs.LifeStages.{KeepsRefused, OutputLasts, TellsLife, to_begin, to_go_on}
 use Rattle.ckpt_program.specs.Sight.{Sight}
 use Rattle.ckpt_program.specs.Stage.{Comes}
 use Rattle.ckpt_program.specs.Texts.{ending_status, status_of}
 use Rattle.ckpt_program.specs.Told.{Takes, TakesAll, TakesPart, Tells, HasFixedLine, HasTextAtHand, IsDone, IsEnding}
-use Rattle.ckpt_program.specs.Top.{KeepsContents, LastsOutput}
+use Rattle.ckpt_program.specs.Rows as row
+use Rattle.ckpt_program.specs.Top.{IsLife, KeepsContents, LastsOutput}
+use Rattle.ckpt_program.specs.Upkeep.{JoinsAsTold, TellsCleared, TellsJoined, joined_text}
+use Rattle.store_upkeep.specs.declared.coalesced.Coalesced.{Coalesced}
 use Rattle.ckpt_program.specs.declared.done.Done.{Done}
 use Rattle.ckpt_program.specs.declared.done.Done.TheVariants as done
 use Rattle.ckpt_program.specs.declared.life_stages.Asked.{Asked}
@@ -36,6 +39,23 @@ told_at_hand l (done.Told t) tells = tt
 told_at_hand l (done.Accepted t) tells = absurd tells
 told_at_hand l (done.Finished t) tells = absurd tells
 told_at_hand l (done.Printed t) tells = absurd tells
+told_at_hand l (done.Noted t) tells = absurd tells
+
+joined_at_hand : (c : Coalesced) (d : Done) → TellsJoined c d → HasTextAtHand (Ok d)
+unfolding TellsJoined
+joined_at_hand c (done.Noted t) tells = tt
+joined_at_hand c (done.Told t) tells = absurd tells
+joined_at_hand c (done.Accepted t) tells = absurd tells
+joined_at_hand c (done.Finished t) tells = absurd tells
+joined_at_hand c (done.Printed t) tells = absurd tells
+
+cleared_at_hand : (d : Done) → TellsCleared d → HasTextAtHand (Ok d)
+unfolding TellsCleared
+cleared_at_hand (done.Noted t) tells = tt
+cleared_at_hand (done.Told t) tells = absurd tells
+cleared_at_hand (done.Accepted t) tells = absurd tells
+cleared_at_hand (done.Finished t) tells = absurd tells
+cleared_at_hand (done.Printed t) tells = absurd tells
 
 pub ending_is : (e : Ending) → IsEnding (ending_status e)
 ending_is (ending.Ended v) = inl (omega arith)
@@ -67,6 +87,18 @@ lasts_lived : (source input : List ℕ) (a : Asked) (old new : Sight) (v w : Vie
 lasts_lived source input a old new v w (Ok d) result came keeps fixed at_hand not = let lived = came.2.2.2 in absurd (not (inl (at_hand (told_at_hand lived.0 d lived.2))))
 lasts_lived source input a old new v w (Err e) result came keeps fixed at_hand not = lasts_stopped e v w result keeps fixed not
 
+lasts_ordered : (o : Result Done Stop) (v w : View) (result : ℕ) → ((d : Done) → o ≡ Ok d → HasTextAtHand (Ok d)) → KeepsRefused o v w → (HasFixedLine o → result ≡ status_of o) → (HasTextAtHand o → IsDone result) → ((IsDone result ⊎ (result ≡ 5)) → ⊥) → OnlyLasting v w
+lasts_ordered (Ok d) v w result hand keeps fixed at_hand not = absurd (not (inl (at_hand (hand d refl))))
+lasts_ordered (Err e) v w result hand keeps fixed at_hand not = lasts_stopped e v w result keeps fixed not
+
+joining_at_hand : (old new : Plate) (o : Result Done Stop) → Comes (row.Coalesce old new) o → (d : Done) → o ≡ Ok d → HasTextAtHand (Ok d)
+joining_at_hand old new (Ok e) came d is = subst (λ (x : Result Done Stop). HasTextAtHand x) is (joined_at_hand came.2.0 e came.2.2)
+joining_at_hand old new (Err e) came d is = absurd (cc is)
+
+clearing_at_hand : (old new : Plate) (o : Result Done Stop) → Comes (row.Clear old new) o → (d : Done) → o ≡ Ok d → HasTextAtHand (Ok d)
+clearing_at_hand old new (Ok e) came d is = subst (λ (x : Result Done Stop). HasTextAtHand x) is (cleared_at_hand e came.2.2)
+clearing_at_hand old new (Err e) came d is = absurd (cc is)
+
 pub lasts_refused : (words : List (List ℕ)) (c : Option Command) (old new : Sight) (v w : View) (o : Result Done Stop) (result : ℕ) → Comes (CarriesSome words c old new (plate v) (plate w)) o → KeepsRefused o v w → (KeepsContents c → Stays v w)
     → (HasFixedLine o → result ≡ status_of o) → (HasTextAtHand o → IsDone result) → ((IsDone result ⊎ (result ≡ 5)) → ⊥) → OnlyLasting v w
 lasts_refused words None old new v w o result came keeps stays fixed at_hand not = stays_lasting v w (stays tt)
@@ -75,6 +107,8 @@ lasts_refused words (Some (Check source)) old new v w o result came keeps stays 
 lasts_refused words (Some (Compile source)) old new v w o result came keeps stays fixed at_hand not = stays_lasting v w (stays tt)
 lasts_refused words (Some (Report source)) old new v w o result came keeps stays fixed at_hand not = stays_lasting v w (stays tt)
 lasts_refused words (Some (Images dir)) old new v w o result came keeps stays fixed at_hand not = stays_lasting v w (stays tt)
+lasts_refused words (Some (Coalesce dir)) old new v w o result came keeps stays fixed at_hand not = lasts_ordered o v w result (joining_at_hand (plate v) (plate w) o came) keeps fixed at_hand not
+lasts_refused words (Some (Clear dir)) old new v w o result came keeps stays fixed at_hand not = lasts_ordered o v w result (clearing_at_hand (plate v) (plate w) o came) keeps fixed at_hand not
 lasts_refused words (Some (Run source input dir settings)) old new v w o result came keeps stays fixed at_hand not =
     lasts_lived (word_at words source) (word_at words input) (to_begin settings) old new v w o result came keeps fixed at_hand not
 lasts_refused words (Some (Restart source input dir settings fill)) old new v w o result came keeps stays fixed at_hand not =
@@ -117,6 +151,7 @@ has_ended s a seen (done.Told t) w k l result came tells is =
 has_ended s a seen (done.Accepted t) w k l result came tells is = absurd came.tells
 has_ended s a seen (done.Finished t) w k l result came tells is = absurd came.tells
 has_ended s a seen (done.Printed t) w k l result came tells is = absurd came.tells
+has_ended s a seen (done.Noted t) w k l result came tells is = absurd came.tells
 
 ends_told : (Is : RunSource → Type 0) (a : Asked) (v w : View) (d : Done) (k l : SinkView) (result : ℕ) → ToldAsSource Is a v d w → Tells (Ok d) k l result → EndsIn Is a v w k l result
 ends_told Is a v w d k l result came tells = λ told s is stand ending. has_ended s a v.seen d w k l result (came told s is stand) tells ending
@@ -135,6 +170,8 @@ ends_as_source words (Some (Check source)) shelf v w o k l result came tells = t
 ends_as_source words (Some (Compile source)) shelf v w o k l result came tells = tt
 ends_as_source words (Some (Report source)) shelf v w o k l result came tells = tt
 ends_as_source words (Some (Images dir)) shelf v w o k l result came tells = tt
+ends_as_source words (Some (Coalesce dir)) shelf v w o k l result came tells = tt
+ends_as_source words (Some (Clear dir)) shelf v w o k l result came tells = tt
 
 -- nothing was told of a life for want of memory
 pub none_told : (words : List (List ℕ)) (c : Option Command) (shelf : Sight) (v w : View) (e : Stop) → ToldBy words c shelf v (Err e) w
@@ -146,7 +183,34 @@ none_told words (Some (Check source)) shelf v w e = tt
 none_told words (Some (Compile source)) shelf v w e = tt
 none_told words (Some (Report source)) shelf v w e = tt
 none_told words (Some (Images dir)) shelf v w e = tt
+none_told words (Some (Coalesce dir)) shelf v w e = tt
+none_told words (Some (Clear dir)) shelf v w e = tt
 
-pub output_lasting : (c : Option Command) (w : View) (o : Result Done Stop) (k l : SinkView) (result : ℕ) → ((KeepsContents c → ⊥) → OnOk o (OutputLasts w)) → Tells o k l result → LastsOutput c result w
+pub output_lasting : (c : Option Command) (w : View) (o : Result Done Stop) (k l : SinkView) (result : ℕ) → (IsLife c → OnOk o (OutputLasts w)) → Tells o k l result → LastsOutput c result w
 output_lasting c w (Ok d) k l result lasts tells = λ lives ending. lasts lives
 output_lasting c w (Err e) k l result lasts tells = λ lives ending. absurd (not_ending e (subst IsEnding (stopped_status e k l result tells) ending))
+
+-- ---- a store that was put in order
+
+text_joined : (c : Coalesced) (d : Done) (k l : SinkView) (result : ℕ) → TellsJoined c d → Tells (Ok d) k l result → result ≡ 0 → IsTrue k.tells → l.written ≡ k.written ++ joined_text c
+unfolding TellsJoined
+text_joined c (done.Noted t) k l result tells took zero told =
+    ⊎_elim (λ all. all.whole told ∙ ap (λ (text : List ℕ). k.written ++ text) tells) (λ part. absurd (omega (arith, part.status_is, zero))) took
+text_joined c (done.Told t) k l result tells took zero told = absurd tells
+text_joined c (done.Accepted t) k l result tells took zero told = absurd tells
+text_joined c (done.Finished t) k l result tells took zero told = absurd tells
+text_joined c (done.Printed t) k l result tells took zero told = absurd tells
+
+pub in_order : (words : List (List ℕ)) (c : Option Command) (shelf : Sight) (v w : View) (o : Result Done Stop) (k l : SinkView) (result : ℕ) → ToldBy words c shelf v o w → Tells o k l result → PutsInOrder c v w k l result
+in_order words (Some (Coalesce dir)) shelf v w (Ok d) k l result came tells = λ told zero. let x = came told in (x.0, x.2, λ there. text_joined x.0 d k l result x.1 tells zero there)
+in_order words (Some (Coalesce dir)) shelf v w (Err e) k l result came tells = λ told zero. absurd (not_ending e (subst IsEnding (stopped_status e k l result tells) (inl zero)))
+in_order words (Some (Clear dir)) shelf v w (Ok d) k l result came tells = λ told zero. came told
+in_order words (Some (Clear dir)) shelf v w (Err e) k l result came tells = λ told zero. absurd (not_ending e (subst IsEnding (stopped_status e k l result tells) (inl zero)))
+in_order words None shelf v w o k l result came tells = tt
+in_order words (Some (Plain source input until)) shelf v w o k l result came tells = tt
+in_order words (Some (Check source)) shelf v w o k l result came tells = tt
+in_order words (Some (Compile source)) shelf v w o k l result came tells = tt
+in_order words (Some (Report source)) shelf v w o k l result came tells = tt
+in_order words (Some (Images dir)) shelf v w o k l result came tells = tt
+in_order words (Some (Run source input dir settings)) shelf v w o k l result came tells = tt
+in_order words (Some (Restart source input dir settings fill)) shelf v w o k l result came tells = tt

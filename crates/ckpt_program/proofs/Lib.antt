@@ -13,4 +13,5 @@ mod Lasting
 mod SourceRead
 mod ShelfReady
 mod StoreReady
+mod Ordering
 mod Completeness

@@ -145,12 +145,12 @@ kept_after (Because (cause.OtherInput kept given)) u v w first second = lasting_
 kept_after (Because (cause.Behind bound step)) u v w first second = lasting_twice u v w first second
 
 -- .. and then a life was lived in it
-pub keeps_done : (u v w : View) (l : Lived) (d : Done) → Stays u v → KeepsRefused (Ok l) v w → KeepsRefused {A = Done} (Ok d) u w
-keeps_done u v w l d stays keeps = record { steady = steady_twice u v w stays.steady keeps.steady; changes = tt }
+pub keeps_done : {A : Type 0} (u v w : View) (l : A) (d : Done) → Stays u v → KeepsRefused {A = A} (Ok l) v w → KeepsRefused {A = Done} (Ok d) u w
+keeps_done {A} u v w l d stays keeps = record { steady = steady_twice u v w stays.steady keeps.steady; changes = tt }
 
 -- .. or was refused
-pub keeps_stopped : (u v w : View) (e : Stop) → Stays u v → KeepsRefused {A = Lived} (Err e) v w → KeepsRefused {A = Done} (Err e) u w
-keeps_stopped u v w e stays keeps = record { steady = steady_twice u v w stays.steady keeps.steady; changes = kept_after e u v w (lasting u v stays) keeps.changes }
+pub keeps_stopped : {A : Type 0} (u v w : View) (e : Stop) → Stays u v → KeepsRefused {A = A} (Err e) v w → KeepsRefused {A = Done} (Err e) u w
+keeps_stopped {A} u v w e stays keeps = record { steady = steady_twice u v w stays.steady keeps.steady; changes = kept_after e u v w (lasting u v stays) keeps.changes }
 
 -- ---- every moment
 
@@ -164,11 +164,14 @@ standing_stays Is u v all stays told s is stand = stays_moments u v (Stands s) a
 pub images_stay : (u v : View) → (IsTrue u.tells_past → IsTrue u.tells) → Stays u v → KeepsImages u v
 images_stay u v all stays told j later = stays_moments u v (IsLater j) all stays (λ t c left. later c left)
 
--- .. and then a life was lived in it
-pub standing_lived : (g : Given) (u v w : View) → (IsTrue u.tells_past → IsTrue u.tells) → Stays u v → LivesStanding g v w → StandThroughout (IsGivenSource g) u w
-standing_lived g u v w all stays lives told s is stand =
-    joined u v w (Stands s) (Stands s) all (standing_stays (IsGivenSource g) u v all stays told s is stand)
+-- .. and then on
+pub standing_then : (Is : RunSource → Type 0) (u v w : View) → (IsTrue u.tells_past → IsTrue u.tells) → Stays u v → StandThroughout Is v w → StandThroughout Is u w
+standing_then Is u v w all stays lives told s is stand =
+    joined u v w (Stands s) (Stands s) all (standing_stays Is u v all stays told s is stand)
     (lives (subst IsTrue (sym stays.steady.tells) told) s is (stand_on s u v told stays stand)) (λ _ c h. h)
+
+pub standing_lived : (g : Given) (u v w : View) → (IsTrue u.tells_past → IsTrue u.tells) → Stays u v → LivesStanding g v w → StandThroughout (IsGivenSource g) u w
+standing_lived g u v w all stays lives = standing_then (IsGivenSource g) u v w all stays lives
 
 pub images_lived : (u v w : View) → (IsTrue u.tells_past → IsTrue u.tells) → Stays u v → KeepsImages v w → KeepsImages u w
 images_lived u v w all stays lives told j later =

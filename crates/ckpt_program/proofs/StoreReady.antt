@@ -44,12 +44,12 @@ use Rattle.ckpt_program.proofs.Lasting.{ending_is}
 use Rattle.ckpt_program.proofs.Running.{source_read, source_given}
 use Rattle.ckpt_program.proofs.ShelfReady.{IsCarriedOut, file_found, file_not_failing, not_refused}
 
-told_seen : (b : Bool) (s : Store) → IsTrue b → told b s ≡ Some s
+pub told_seen : (b : Bool) (s : Store) → IsTrue b → told b s ≡ Some s
 told_seen true s tells = refl
 told_seen false s tells = absurd (false≢true tells)
 
 -- the disk did not fail
-entry_not_failing : (disk disk_new : Plate) (c : Cause) → (Rose disk.faults disk_new.faults → ⊥) → FailsEntry disk disk_new c → ⊥
+pub entry_not_failing : (disk disk_new : Plate) (c : Cause) → (Rose disk.faults disk_new.faults → ⊥) → FailsEntry disk disk_new c → ⊥
 unfolding FailsEntry
 entry_not_failing disk disk_new cause.DiskFault count fails = count fails
 entry_not_failing disk disk_new cause.Usage count fails = absurd fails
@@ -149,6 +149,7 @@ lived_status l (done.Told t) tells = ending_is t.ending
 lived_status l (done.Accepted t) tells = absurd tells
 lived_status l (done.Finished t) tells = absurd tells
 lived_status l (done.Printed t) tells = absurd tells
+lived_status l (done.Noted t) tells = absurd tells
 
 pub with_life : Accepts → (source input : List ℕ) (a : Asked) (v w : ShelfView) (disk disk_new : View) (o : Result Done Stop) → IsTrue v.tells → (Rose v.faults w.faults → ⊥) → (IsTrue disk.tells → disk.may_leave disk.seen)
     → CanLive source input v disk disk_new → Comes (Lives source input a (sight v) (sight w) (plate disk) (plate disk_new)) o → IsLived a disk.seen o

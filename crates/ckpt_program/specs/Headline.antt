@@ -11,7 +11,7 @@ use Rattle.run_images.specs.Source.{Source as RunSource, IsSource, run_of}
 use Rattle.run_images.specs.Stands.{Stands, AllStand}
 use Rattle.run_marks.specs.Digests.{digests_of}
 use Rattle.command_words.specs.declared.command.Command.{Command}
-use Rattle.command_words.specs.declared.command.Command.TheVariants.{Run, Restart}
+use Rattle.command_words.specs.declared.command.Command.TheVariants.{Run, Restart, Coalesce, Clear}
 use Rattle.ckpt_runner.specs.Opening.{HasChain}
 use Rattle.ckpt_runner.specs.Standing.{AllEnd}
 use Rattle.ckpt_runner.specs.declared.started.Started.{Started}
@@ -23,6 +23,9 @@ use Rattle.ckpt_program.specs.LifeStages.{to_begin, to_go_on, start_line, TellsL
 use Rattle.ckpt_program.specs.Sight.{Sight}
 use Rattle.ckpt_program.specs.Texts.{ending_status}
 use Rattle.ckpt_program.specs.Told.{IsEnding}
+use Rattle.store_upkeep.specs.Clearing.{IsEmptied}
+use Rattle.ckpt_program.specs.Upkeep.{Clears, LeavesJoined, JoinsAsTold, joined_text}
+use Rattle.store_upkeep.specs.declared.coalesced.Coalesced.{Coalesced}
 use Rattle.ckpt_program.specs.declared.done.Done.{Done}
 use Rattle.ckpt_program.specs.declared.life_stages.Asked.{Asked}
 use Rattle.ckpt_program.specs.declared.lives.Job.{Job}
@@ -47,10 +50,12 @@ pub record IsSourceOf (j : Job) (s : RunSource) : Type 0 where
   pub marks : s.marks ≡ digests_of j.text.list j.input.list
   pub is : IsSource s
 
--- the source of the files that a command names
+-- the sources of which every moment is promised: that of the files that a command names, and each one where it names none
 abbrev pub SourceOf : (words : List (List ℕ)) → Option Command → Sight → RunSource → Type 0
 SourceOf words (Some (Run source input dir settings)) shelf s = IsSourceIn (word_at words source) (word_at words input) shelf s
 SourceOf words (Some (Restart source input dir settings fill)) shelf s = IsSourceIn (word_at words source) (word_at words input) shelf s
+SourceOf words (Some (Coalesce dir)) shelf s = IsSource s
+SourceOf words (Some (Clear dir)) shelf s = IsSource s
 SourceOf words command shelf s = ⊥
 
 -- ---- every moment
@@ -79,11 +84,13 @@ pub record TellsSource (s : RunSource) (a : Asked) (seen : Store) (d : Done) (ne
 abbrev pub ToldAsSource : (RunSource → Type 0) → Asked → (old : View) → Done → (new : View) → Type 0
 ToldAsSource Is a old d new = IsTrue old.tells → (s : RunSource) → Is s → AllStand s old → TellsSource s a old.seen d new
 
--- so it is where a command lived
+-- So it is where a command lived; and where one put a store in order, that is so.
 abbrev pub ToldBy : (words : List (List ℕ)) → Option Command → Sight → (old : View) → Result Done Stop → (new : View) → Type 0
 ToldBy words (Some (Run source input dir settings)) shelf old (Ok d) new = ToldAsSource (IsSourceIn (word_at words source) (word_at words input) shelf) (to_begin settings) old d new
 ToldBy words (Some (Restart source input dir settings fill)) shelf old (Ok d) new =
     ToldAsSource (IsSourceIn (word_at words source) (word_at words input) shelf) (to_go_on settings fill) old d new
+ToldBy words (Some (Coalesce dir)) shelf old (Ok d) new = JoinsAsTold old d new
+ToldBy words (Some (Clear dir)) shelf old (Ok d) new = Clears old new
 ToldBy words command shelf old r new = Unit {0}
 
 -- The status and the text are those of the source's run within the bound, behind the line on the start; and for reads and every crash the store has the output and the images of that run.
@@ -106,3 +113,10 @@ EndsAsSource words (Some (Run source input dir settings)) shelf old new console 
 EndsAsSource words (Some (Restart source input dir settings fill)) shelf old new console console_new status =
     EndsIn (IsSourceIn (word_at words source) (word_at words input) shelf) (to_go_on settings fill) old new console console_new status
 EndsAsSource words command shelf old new console console_new status = Unit {0}
+
+-- Where the disk tells and the command ends with 0: the records of a store are joined as is told, and a store that was cleared has no chain and no output, for reads and every crash.
+abbrev pub PutsInOrder : Option Command → (old new : View) (console console_new : SinkView) → (status : ℕ) → Type 0
+PutsInOrder (Some (Coalesce dir)) old new console console_new status =
+    IsTrue old.tells → status ≡ 0 → (c : Coalesced) × LeavesJoined c old new × (IsTrue console.tells → console_new.written ≡ console.written ++ joined_text c)
+PutsInOrder (Some (Clear dir)) old new console console_new status = IsTrue old.tells → status ≡ 0 → IsEmptied new
+PutsInOrder command old new console console_new status = Unit {0}

@@ -14,6 +14,8 @@ pub mod Stages
 pub mod DiskStages
 -- the stages of a life
 pub mod LifeStages
+-- the stages that keep a store in order
+pub mod Upkeep
 -- what `compile` prints
 pub mod Listed
 -- what `report` prints

@@ -11,6 +11,7 @@ use Rattle.ckpt_program.specs.Stage.{Stage, ◌>>=◌, only}
 use Rattle.ckpt_program.specs.Stages.{File, Source}
 use Rattle.disk_model.specs.Plate.{Plate}
 use Rattle.ckpt_program.specs.DiskStages.{Entered, Listed}
+use Rattle.ckpt_program.specs.Upkeep.{ClearedIn, JoinedIn, TellsCleared, TellsJoined}
 use Rattle.ckpt_program.specs.Listed.{IsListing}
 use Rattle.ckpt_program.specs.Report.{IsReport}
 use Rattle.ckpt_program.specs.declared.done.Counts.{Counts}
@@ -76,3 +77,17 @@ Images old new = do
   entered ← Entered old new
   text ← Listed old new
   only (λ d. d ≡ done.Printed text)
+
+-- `coalesce DIR`
+abbrev pub Coalesce : (old new : Plate) → Stage Done
+Coalesce old new = do
+  entered ← Entered old new
+  joined ← JoinedIn old new
+  only (TellsJoined joined)
+
+-- `clear DIR`
+abbrev pub Clear : (old new : Plate) → Stage Done
+Clear old new = do
+  entered ← Entered old new
+  cleared ← ClearedIn old new
+  only TellsCleared

@@ -33,6 +33,7 @@ done_text (done.Accepted c) = counts_line c
 done_text (done.Finished r) = run_text r.output.list r.ending r.ticks
 done_text (done.Printed t) = t
 done_text (done.Told t) = t.text.list
+done_text (done.Noted t) = t.list
 
 -- 0 where a run ended, 3 where it trapped, 4 where it stopped at its bound
 abbrev pub ending_status : Ending → ℕ
@@ -45,6 +46,7 @@ done_status (done.Accepted c) = 0
 done_status (done.Finished r) = ending_status r.ending
 done_status (done.Printed t) = 0
 done_status (done.Told t) = ending_status t.ending
+done_status (done.Noted t) = 0
 
 -- ---- why it stopped
 

@@ -39,6 +39,7 @@ HasFixedLine (Err (stop.Because c)) = IsSome (fixed_line c)
 -- its text was made while it was carried out
 abbrev pub HasTextAtHand : Result Done Stop → Type 0
 HasTextAtHand (Ok (done.Told t)) = Unit {0}
+HasTextAtHand (Ok (done.Noted t)) = Unit {0}
 HasTextAtHand o = ⊥
 
 -- the status of a run that ended, trapped, or stopped at its bound

@@ -1,5 +1,5 @@
 -- The clauses of the top call: the one on its outcome, those that name none, and the one on completeness.
-use Rattle.std.specs.Prelude.{◌≡◌, ◌<◌, ◌≤◌, ◌-◌, ◌^◌, ◌⊎◌, ◌++◌, ℕ, IsTrue, List, length, Option, Some, None, Result, Ok}
+use Rattle.std.specs.Prelude.{◌≡◌, ◌<◌, ◌≤◌, ◌-◌, ◌^◌, ◌⊎◌, ◌++◌, ℕ, IsTrue, List, length, codes, Option, Some, None, Result, Ok}
 use Rattle.ckpt_base.specs.Faults.{Rose}
 use Rattle.ckpt_base.specs.Run as run
 use Rattle.ckpt_base.specs.Shelf.{ShelfView, file_named}
@@ -8,7 +8,7 @@ use Rattle.c_tree.specs.declared.resolved.Resolved.{Resolved}
 use Rattle.c_tree.specs.Meaning.{meaning}
 use Rattle.command_words.specs.Words.{command_of}
 use Rattle.command_words.specs.declared.command.Command.{Command}
-use Rattle.command_words.specs.declared.command.Command.TheVariants.{Plain, Check, Compile, Report, Run, Restart, Images}
+use Rattle.command_words.specs.declared.command.Command.TheVariants.{Plain, Check, Compile, Report, Run, Restart, Images, Coalesce, Clear}
 use Rattle.disk_model.specs.Store.{Store}
 use Rattle.disk_model.specs.View.{View}
 use Rattle.disk_model.specs.Plate.{plate}
@@ -33,6 +33,9 @@ use Rattle.ckpt_program.specs.Rows.{IsCounted}
 use Rattle.ckpt_program.specs.Carries.{word_at, CarriesSome}
 use Rattle.ckpt_program.specs.Texts.{counts_line, run_text, ending_status, usage_line, occupied_line}
 use Rattle.ckpt_program.specs.Told.{Tells, IsDone, IsEnding}
+use Rattle.ckpt_program.specs.Upkeep.{FindsRecords, joined_text}
+use Rattle.store_upkeep.specs.declared.coalesced.Coalesced.{Coalesced}
+use Rattle.ckpt_runner.specs.Standing.{KeepsImages}
 use Rattle.ckpt_program.specs.declared.done.Counts.{Counts}
 use Rattle.ckpt_program.specs.declared.done.Done.{Done}
 use Rattle.ckpt_program.specs.declared.stop.Stop.{Stop}
@@ -55,12 +58,16 @@ abbrev pub IsQuiet : Option Command → Type 0
 IsQuiet (Some (Images dir)) = ⊥
 IsQuiet (Some (Run source input dir settings)) = ⊥
 IsQuiet (Some (Restart source input dir settings fill)) = ⊥
+IsQuiet (Some (Coalesce dir)) = ⊥
+IsQuiet (Some (Clear dir)) = ⊥
 IsQuiet command = Unit {0}
 
 -- the command changes no contents
 abbrev pub KeepsContents : Option Command → Type 0
 KeepsContents (Some (Run source input dir settings)) = ⊥
 KeepsContents (Some (Restart source input dir settings fill)) = ⊥
+KeepsContents (Some (Coalesce dir)) = ⊥
+KeepsContents (Some (Clear dir)) = ⊥
 KeepsContents command = Unit {0}
 
 -- At every moment of a command that changes no contents a crash leaves what one might have left at entry. At every moment of one that lives, where the store stands for
@@ -72,9 +79,24 @@ AnyMoment words command shelf old new = (KeepsContents command → LeavesOnly ol
 abbrev pub LeavesContents : Option Command → (result : ℕ) → (old new : View) → Type 0
 LeavesContents command result old new = (IsQuiet command → Untouched old new) × (KeepsContents command ⊎ ((IsDone result ⊎ (result ≡ 5)) → ⊥) → OnlyLasting old new)
 
+-- the command lives
+abbrev pub IsLife : Option Command → Type 0
+IsLife (Some (Run source input dir settings)) = Unit {0}
+IsLife (Some (Restart source input dir settings fill)) = Unit {0}
+IsLife command = ⊥
+
 -- Of a life that was told, a crash leaves the output as it reads.
 abbrev pub LastsOutput : Option Command → (result : ℕ) → View → Type 0
-LastsOutput command result new = (KeepsContents command → ⊥) → IsEnding result → OutputLasts new
+LastsOutput command result new = IsLife command → IsEnding result → OutputLasts new
+
+-- the command leaves no store without its images
+abbrev pub SparesImages : Option Command → Type 0
+SparesImages (Some (Clear dir)) = ⊥
+SparesImages command = Unit {0}
+
+-- No image is lost: where every crash at entry leaves image j or a later one as the newest, so does every crash at every moment.
+abbrev pub NoImageLost : Option Command → (old new : View) → Type 0
+NoImageLost command old new = SparesImages command → KeepsImages old new
 
 -- ---- completeness
 
@@ -130,6 +152,8 @@ IsReady words (Some (Run source input dir settings)) shelf disk disk_new job = C
 IsReady words (Some (Restart source input dir settings fill)) shelf disk disk_new job =
     CanLive (word_at words source) (word_at words input) shelf disk disk_new × IsAhead settings.until disk.seen
 IsReady words (Some (Images dir)) shelf disk disk_new job = HasChainOf disk disk_new job.chain
+IsReady words (Some (Coalesce dir)) shelf disk disk_new job = HasChainOf disk disk_new job.chain
+IsReady words (Some (Clear dir)) shelf disk disk_new job = Rose disk.faults disk_new.faults → ⊥
 
 -- the store has a chain, and the line tells its newest image
 abbrev pub TellsOccupied : Store → (text : List ℕ) → Type 0
@@ -147,6 +171,8 @@ Says (Some (Plain source input until)) job disk status text =
 Says (Some (Run source input dir settings)) job disk status text = IsEnding status ⊎ ((status ≡ 10) × TellsOccupied disk.seen text)
 Says (Some (Restart source input dir settings fill)) job disk status text = IsEnding status
 Says (Some (Images dir)) job disk status text = (status ≡ 0) × (text ≡ chain_text job.chain)
+Says (Some (Coalesce dir)) job disk status text = (status ≡ 0) × (c : Coalesced) × FindsRecords c disk.seen × (text ≡ joined_text c)
+Says (Some (Clear dir)) job disk status text = (status ≡ 0) × (text ≡ codes "cleared\n")
 
 -- Where the files and the store are as they should be and no count rose, exactly what is meant is told, or that there is no memory.
 abbrev pub Complete : (words : List (List ℕ)) → Option Command → (shelf shelf_new : ShelfView) (disk disk_new : View) (console console_new : SinkView) → (result : ℕ) → Type 0

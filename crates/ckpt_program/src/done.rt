@@ -39,6 +39,8 @@ pub enum Done {
     Printed(Text),
     /// A life ran, and is told in room that was taken for it.
     Told(Told),
+    /// A store was put in order, and that is told in room that was taken for it.
+    Noted(Bytes),
 }
 
 impl Done {
@@ -47,7 +49,7 @@ impl Done {
         ensures answer { result ≡ spec.done_status self.now }
     {
         match self {
-            Done::Accepted(_) | Done::Printed(_) => 0,
+            Done::Accepted(_) | Done::Printed(_) | Done::Noted(_) => 0,
             Done::Finished(run) => ending_status(&run.ending),
             Done::Told(told) => ending_status(&told.ending),
         }
@@ -62,6 +64,7 @@ impl Done {
             Done::Finished(run) => run_text(alloc, run),
             Done::Printed(text) => Vec::from_slice(alloc, text.as_bytes()),
             Done::Told(told) => Vec::from_slice(alloc, told.text.as_slice()),
+            Done::Noted(text) => Vec::from_slice(alloc, text.as_slice()),
         }
     }
 }

@@ -44,6 +44,7 @@ mod telling;
 #[cfg(test)]
 mod tests;
 mod top;
+mod upkeep;
 
 use ckpt_base::{NoMemory, Text};
 use host_edge::{DirDisk, FileShelf, StdSink};

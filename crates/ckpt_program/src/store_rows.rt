@@ -426,3 +426,71 @@ pub const USAGE: [Store<'static>; 1] = [(
     ],
     b"",
 )];
+
+/// Stores that are put in order.
+pub const UPKEEP: [Store<'static>; 5] = [
+    (
+        &[
+            (&["coalesce", "D"], 0, b"no chain\n"),
+            (&["clear", "D"], 0, b"cleared\n"),
+            (&["images", "D"], 0, b"no chain\n"),
+        ],
+        b"",
+    ),
+    (
+        &[
+            (
+                &["run", "P", "E0", "D", "--max", "2"],
+                0,
+                b"begun\nend 7 steps 26\n",
+            ),
+            (&["coalesce", "D"], 0, b"joined 2\n"),
+            (&["coalesce", "D"], 0, b"nothing to join\n"),
+            (&["images", "D"], 0, b"image 4 step 22 cells 3 5\n"),
+            (
+                &["restart", "P", "E0", "D"],
+                0,
+                b"resumed image 4 step 22\nend 7 steps 26\n",
+            ),
+        ],
+        b"9\n",
+    ),
+    (
+        &[
+            (
+                &["run", "P", "E0", "D", "--until", "15"],
+                4,
+                b"begun\nstopped steps 15\n",
+            ),
+            (&["coalesce", "D"], 0, b"joined 2\n"),
+            (
+                &["restart", "P", "E0", "D", "--fill", "255"],
+                0,
+                b"resumed image 2 step 12\nend 7 steps 26\n",
+            ),
+            (
+                &["images", "D"],
+                0,
+                b"image 2 step 12 cells 3 5\nimage 3 step 17 cells 3 5\nimage 4 step 22 cells 3 5\n",
+            ),
+        ],
+        b"9\n",
+    ),
+    (
+        &[
+            (&["run", "P", "E0", "D"], 0, b"begun\nend 7 steps 26\n"),
+            (&["clear", "D"], 0, b"cleared\n"),
+            (&["images", "D"], 0, b"no chain\n"),
+            (&["coalesce", "D"], 0, b"no chain\n"),
+            (&["run", "Q", "E0", "D"], 0, b"begun\nend 0 steps 22\n"),
+        ],
+        b"18\n",
+    ),
+    (
+        &[
+            (&["run", "P", "E0", "D"], 0, b"begun\nend 7 steps 26\n"),
+            (&["clear", "D"], 0, b"cleared\n"),
+        ],
+        b"",
+    ),
+];

@@ -1,4 +1,4 @@
-use crate::store_rows::{FILES, RESTARTS, RUNS, Step, Store, USAGE};
+use crate::store_rows::{FILES, RESTARTS, RUNS, Step, Store, UPKEEP, USAGE};
 use crate::top::ckpt;
 use ckpt_base::{Bytes, MemShelf, MemSink, Text};
 use disk_model::{Disk, DiskFile, MemDisk};
@@ -80,6 +80,11 @@ fn lives_begin(rt: HostRuntime) -> Result<(), Fail> {
 #[test]
 fn lives_go_on(rt: HostRuntime) -> Result<(), Fail> {
     hold(&rt, rt.alloc(), RESTARTS.as_slice())
+}
+
+#[test]
+fn stores_are_put_in_order(rt: HostRuntime) -> Result<(), Fail> {
+    hold(&rt, rt.alloc(), UPKEEP.as_slice())
 }
 
 #[test]

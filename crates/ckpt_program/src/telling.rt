@@ -12,6 +12,9 @@ use crate::stop::{Cause, Stop};
 use ckpt_base::{Failed, Sink};
 use std::alloc::Global;
 
+/// The status of a command that was carried out.
+const DONE: u8 = 0;
+
 /// The status where the console did not take the text of a command that was carried out.
 const CONSOLE_FAULT: u8 = 7;
 
@@ -23,7 +26,7 @@ pub fn tell<K: Sink>(alloc: Global, console: &mut K, came: &Result<Done, Stop>) 
     ensures answer { Tells came.now (K.view console.old) (K.view console.new) result ⊎ Tells (Err stop.NoMemory) (K.view console.old) (K.view console.new) result }
     // a line that is always the same takes no memory
     ensures fixed { HasFixedLine came.now → result ≡ status_of came.now }
-    // nor does what a life has told
+    // nor does what a life has told, or what was done to a store
     ensures at_hand { HasTextAtHand came.now → IsDone result }
 {
     match came {
@@ -33,6 +36,7 @@ pub fn tell<K: Sink>(alloc: Global, console: &mut K, came: &Result<Done, Stop>) 
             ending_status(&told.ending),
             CONSOLE_FAULT,
         ),
+        Ok(Done::Noted(text)) => write(console, text.as_slice(), DONE, CONSOLE_FAULT),
         Ok(done) => match done.text(alloc) {
             Ok(text) => write(console, &text, done.status(), CONSOLE_FAULT),
             Err(_) => no_memory(console),

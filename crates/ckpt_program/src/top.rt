@@ -9,9 +9,8 @@ ghost use Rattle.ckpt_program.specs.Stage.{Comes};
 ghost use Rattle.ckpt_program.specs.DiskStages.{CalmDisk, Stays};
 ghost use Rattle.ckpt_program.specs.LifeStages.{KeepsRefused, OutputLasts};
 ghost use Rattle.ckpt_program.specs.Carries.{word_at, Carries, CarriesSome};
-ghost use Rattle.ckpt_program.specs.Headline.{EndsAsSource, SourceOf, StandThroughout, ToldBy};
-ghost use Rattle.ckpt_program.specs.Top.{Answers, Blames, IsQuiet, KeepsContents, AnyMoment, LeavesContents, LastsOutput, Complete};
-ghost use Rattle.ckpt_runner.specs.Standing.{KeepsImages};
+ghost use Rattle.ckpt_program.specs.Headline.{EndsAsSource, PutsInOrder, SourceOf, StandThroughout, ToldBy};
+ghost use Rattle.ckpt_program.specs.Top.{Answers, Blames, IsQuiet, KeepsContents, AnyMoment, NoImageLost, LeavesContents, IsLife, LastsOutput, Complete};
 
 use crate::check::check;
 use crate::compile::compile;
@@ -23,6 +22,7 @@ use crate::plain::plain;
 use crate::report::report;
 use crate::stop::{Cause, Stop};
 use crate::telling::tell;
+use crate::upkeep::{clear, coalesce};
 use accepted_stores::standing_stores_are_accepted;
 use ckpt_base::{Shelf, Sink, Text};
 use ckpt_runner::Mode;
@@ -50,7 +50,8 @@ pub fn ckpt<H: Shelf, D: Disk, K: Sink>(
     ensures steady { Later (sight (H.view shelf.old)) (sight (H.view shelf.new)) × Steady (D.view disk.old) (D.view disk.new) }
     ensures ends_as_source { EndsAsSource words.now.items (command_of words.now.items) (sight (H.view shelf.old)) (D.view disk.old) (D.view disk.new) (K.view console.old) (K.view console.new) result }
     ensures any_moment { AnyMoment words.now.items (command_of words.now.items) (sight (H.view shelf.old)) (D.view disk.old) (D.view disk.new) }
-    ensures no_image_lost { KeepsImages (D.view disk.old) (D.view disk.new) }
+    ensures no_image_lost { NoImageLost (command_of words.now.items) (D.view disk.old) (D.view disk.new) }
+    ensures in_order { PutsInOrder (command_of words.now.items) (D.view disk.old) (D.view disk.new) (K.view console.old) (K.view console.new) result }
     ensures untouched { LeavesContents (command_of words.now.items) result (D.view disk.old) (D.view disk.new) }
     ensures lasting { LastsOutput (command_of words.now.items) result (D.view disk.new) }
     ensures blamed { Blames 6 (H.view shelf.old).faults (H.view shelf.new).faults result }
@@ -72,11 +73,11 @@ fn come_to<H: Shelf, D: Disk>(
     ensures answer { Comes (CarriesSome words.now.items (command_of words.now.items) (sight (H.view shelf.old)) (sight (H.view shelf.new)) (plate (D.view disk.old)) (plate (D.view disk.new))) result }
     ensures calm { Calm result (sight (H.view shelf.old)) (sight (H.view shelf.new)) }
     ensures keeps { KeepsRefused result (D.view disk.old) (D.view disk.new) }
-    ensures lasting { (KeepsContents (command_of words.now.items) → ⊥) → OnOk result (OutputLasts (D.view disk.new)) }
+    ensures lasting { IsLife (command_of words.now.items) → OnOk result (OutputLasts (D.view disk.new)) }
     ensures stays { KeepsContents (command_of words.now.items) → Stays (D.view disk.old) (D.view disk.new) }
     ensures quiet { IsQuiet (command_of words.now.items) → disk.new ≡ disk.old }
     ensures moments { StandThroughout (SourceOf words.now.items (command_of words.now.items) (sight (H.view shelf.old))) (D.view disk.old) (D.view disk.new) }
-    ensures later { KeepsImages (D.view disk.old) (D.view disk.new) }
+    ensures later { NoImageLost (command_of words.now.items) (D.view disk.old) (D.view disk.new) }
     ensures told { ToldBy words.now.items (command_of words.now.items) (sight (H.view shelf.old)) (D.view disk.old) result (D.view disk.new) }
     ensures count { CalmDisk result (D.view disk.old).faults (D.view disk.new).faults }
 {
@@ -99,11 +100,11 @@ fn carry<H: Shelf, D: Disk>(
     ensures answer { Comes (Carries words.now command (sight (H.view shelf.old)) (sight (H.view shelf.new)) (plate (D.view disk.old)) (plate (D.view disk.new))) result }
     ensures calm { Calm result (sight (H.view shelf.old)) (sight (H.view shelf.new)) }
     ensures keeps { KeepsRefused result (D.view disk.old) (D.view disk.new) }
-    ensures lasting { (KeepsContents (Some command) → ⊥) → OnOk result (OutputLasts (D.view disk.new)) }
+    ensures lasting { IsLife (Some command) → OnOk result (OutputLasts (D.view disk.new)) }
     ensures stays { KeepsContents (Some command) → Stays (D.view disk.old) (D.view disk.new) }
     ensures quiet { IsQuiet (Some command) → disk.new ≡ disk.old }
     ensures moments { StandThroughout (SourceOf words.now (Some command) (sight (H.view shelf.old))) (D.view disk.old) (D.view disk.new) }
-    ensures later { KeepsImages (D.view disk.old) (D.view disk.new) }
+    ensures later { NoImageLost (Some command) (D.view disk.old) (D.view disk.new) }
     ensures told { ToldBy words.now (Some command) (sight (H.view shelf.old)) (D.view disk.old) result (D.view disk.new) }
     ensures count { CalmDisk result (D.view disk.old).faults (D.view disk.new).faults }
 {
@@ -160,6 +161,8 @@ fn carry<H: Shelf, D: Disk>(
             )
         }
         Command::Images { dir } => images(alloc, disk, word(words, dir)),
+        Command::Coalesce { dir } => coalesce(alloc, disk, word(words, dir)),
+        Command::Clear { dir } => clear(alloc, disk, word(words, dir)),
     }
 }
 

@@ -6,7 +6,7 @@ use Rattle.command_words.specs.declared.options.Name.{Name}
 use Rattle.command_words.specs.declared.options.Name.TheVariants.{Until, Every, Max, Pace, Fill}
 use Rattle.command_words.specs.declared.command.Settings.{Settings}
 use Rattle.command_words.specs.declared.command.Command.{Command}
-use Rattle.command_words.specs.declared.command.Command.TheVariants.{Plain, Check, Compile, Report, Run, Restart, Images}
+use Rattle.command_words.specs.declared.command.Command.TheVariants.{Plain, Check, Compile, Report, Run, Restart, Images, Coalesce, Clear}
 
 -- the greatest number of steps that can be asked for
 abbrev pub most_steps : ℕ
@@ -59,6 +59,8 @@ command_of (name ∷ words) =
     else if bytes_eq name (codes "run") then run_of words
     else if bytes_eq name (codes "restart") then restart_of words
     else if bytes_eq name (codes "images") then of_one (Images 1) words
+    else if bytes_eq name (codes "coalesce") then of_one (Coalesce 1) words
+    else if bytes_eq name (codes "clear") then of_one (Clear 1) words
     else None
 
 -- each file of the command is one of so many words
@@ -70,6 +72,8 @@ HasPlaces (Report source) n = source < n
 HasPlaces (Run source input dir settings) n = (source < n) × (input < n) × (dir < n)
 HasPlaces (Restart source input dir settings fill) n = (source < n) × (input < n) × (dir < n)
 HasPlaces (Images dir) n = dir < n
+HasPlaces (Coalesce dir) n = dir < n
+HasPlaces (Clear dir) n = dir < n
 
 -- the numbers of the settings are in range
 pub record InRange (s : Settings) : Type 0 where

@@ -50,4 +50,12 @@ pub enum Command {
     Images {
         dir: usize,
     },
+    /// `coalesce DIR`: joins the records of a store into one.
+    Coalesce {
+        dir: usize,
+    },
+    /// `clear DIR`: leaves a store without a chain and without output.
+    Clear {
+        dir: usize,
+    },
 }

@@ -44,6 +44,10 @@ fn command(words: &[Text]) -> Option<Command>
                 restart(words)
             } else if name.as_bytes() == b"images".as_slice() {
                 of_one(words, Command::Images { dir: 1 })
+            } else if name.as_bytes() == b"coalesce".as_slice() {
+                of_one(words, Command::Coalesce { dir: 1 })
+            } else if name.as_bytes() == b"clear".as_slice() {
+                of_one(words, Command::Clear { dir: 1 })
             } else {
                 None
             }

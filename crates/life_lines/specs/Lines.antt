@@ -13,3 +13,7 @@ abbrev pub ending_line : Ending → ℕ → List ℕ
 ending_line (Ended v) n = codes "end " ++ (signed_decimal v ++ (codes " steps " ++ (decimal n ++ codes "\n")))
 ending_line (Trapped t) n = codes "trap " ++ (decimal t ++ (codes " steps " ++ (decimal n ++ codes "\n")))
 ending_line Going n = codes "stopped steps " ++ (decimal n ++ codes "\n")
+
+-- so many records were joined into one
+abbrev pub joined_line : (records : ℕ) → List ℕ
+joined_line records = codes "joined " ++ (decimal records ++ codes "\n")

@@ -1,4 +1,4 @@
-//! The lines that tell of a life: how it started, and how it ended. They are appended to room that was taken before, so they want no memory.
+//! The lines that tell of a life and its store: how it started, how it ended, and what was joined. They are appended to room that was taken before, so they want no memory.
 #![tactic(auto)]
 
 ghost use Rattle.std.specs.Prelude.{◌≡◌, ◌≤◌, ◌+◌, ◌++◌, codes};
@@ -51,6 +51,16 @@ pub fn add_ending(text: &mut Bytes, ending: &Ending, steps: u64)
     }
     text.append(b" steps ");
     add_number(text, steps);
+    text.append(b"\n");
+}
+
+/// Appends the line of records that were joined into one.
+pub fn add_joined(text: &mut Bytes, records: u16)
+    requires room { 128 ≤ text.old.spare }
+    ensures list { text.new.list ≡ text.old.list ++ spec.joined_line records }
+{
+    text.append(b"joined ");
+    add_number(text, records as u64);
     text.append(b"\n");
 }
 

@@ -1,5 +1,5 @@
 -- A store that is cleared: its image files, and then its output.
-use Rattle.std.proofs.Common.{◌≡◌, ◌≢◌, refl, sym, ◌∙◌, ap, subst, ℕ, ◌<◌, ◌≤◌, true, false, IsTrue, inl, inr, ◌⊎◌, ⊎_elim, List, [], Option, Some, None, Result, Ok}
+use Rattle.std.proofs.Common.{◌≡◌, ◌≢◌, refl, sym, ◌∙◌, ap, subst, ℕ, ◌<◌, ◌≤◌, true, false, IsTrue, inl, inr, ⊎_elim, List, [], Option, Some, None, Result, Ok}
 use Rattle.disk_model.specs.declared.disk_file.DiskFile.{DiskFile}
 use Rattle.disk_model.specs.declared.disk_file.DiskFile.TheVariants.{Output, One, Two}
 use Rattle.disk_model.specs.Store.{Store, file_of, with_file}
@@ -10,13 +10,13 @@ use Rattle.disk_model.proofs.Calls.{changed, after_change, weaken, synced_leaves
 use Rattle.image_format.specs.declared.fields.Fields.{Fields}
 use Rattle.image_format.specs.declared.header.Header.{Header}
 use Rattle.image_format.specs.Image.{Image}
-use Rattle.image_chain.specs.Clear.{blank, blank_header, IsBlank, IsClearing, IsCleared}
+use Rattle.image_chain.specs.Clear.{blank, IsBlank, IsClearing, IsCleared}
 use Rattle.image_chain.specs.Files.{IsOpenIn, FileLists}
 use Rattle.image_chain.specs.Records.{Damage, header_in, newest_of, chain_in}
 use Rattle.image_chain.proofs.ClearLaws.{header_of_blank}
 use Rattle.image_chain.proofs.ListLaws.{current_is}
 use Rattle.run_images.specs.Source.{Source}
-use Rattle.run_images.specs.Stands.{Stands, StandsFor}
+use Rattle.run_images.specs.Stands.{Stands, StandsFor, AllStand}
 use Rattle.run_images.proofs.FoundLaws.{chainless_stands}
 use Rattle.run_images.proofs.OutputLaws.{open_same, lists_same}
 use Rattle.store_upkeep.specs.Clearing.{IsEmptied, IsEmptying}
@@ -132,6 +132,9 @@ one_stands s d c stands output one two = record {
 
 blank_stands : (s : Source) (c : Store) → IsBlank c → Stands s c
 blank_stands s c is = (chainless_stands s 0 c (none_in_blank c is)).stands
+
+pub emptied_stand : (v : View) → IsEmptied v → (s : Source) → AllStand s v
+emptied_stand v is s c left = blank_stands s c (is.cleared.left c left)
 
 same_store : (d c : Store) → c.output ≡ d.output → c.one ≡ d.one → c.two ≡ d.two → c ≡ d
 same_store d c output one two = λ i. record { output = output i; one = one i; two = two i }

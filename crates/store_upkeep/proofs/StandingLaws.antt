@@ -1,5 +1,5 @@
 -- A store that stands for a source still stands, and loses no image, while its records are joined.
-use Rattle.std.proofs.Common.{◌≡◌, refl, sym, ◌∙◌, ap, subst, ℕ, ◌+◌, ◌≤◌, IsTrue, inr, List, [], ◌∷◌, length, take, Some, None, Ok, arith}
+use Rattle.std.proofs.Common.{◌≡◌, refl, ap, ℕ, ◌≤◌, IsTrue, inr, List, [], ◌∷◌, length, take, Some, None, Ok, arith}
 use Rattle.std.proofs.lemmas.List.{take-take}
 use Rattle.disk_model.specs.Store.{Store}
 use Rattle.disk_model.specs.View.{View}
@@ -24,10 +24,8 @@ use Rattle.run_images.proofs.ChainLaws.{replaced_stands, replaced_later}
 use Rattle.run_images.proofs.LaterLaws.{listed_later}
 use Rattle.run_images.proofs.OutputLaws.{stands_on}
 use Rattle.run_images.proofs.StandLaws.{kept_stands}
-use Rattle.ckpt_runner.specs.Standing.{KeepsImages}
 use Rattle.ckpt_runner.proofs.GoodCalls.{plain_moments}
 use Rattle.ckpt_runner.proofs.GoodStarts.{NeedMost, resumed_stand}
-use Rattle.store_upkeep.specs.Keeping.{StaysStanding}
 use Rattle.store_upkeep.proofs.CoalescedLaws.{long, listed}
 
 newest_there : (rs : List Image) → 1 ≤ length rs → (x : Fields) × (newest_of None rs ≡ Some x)

@@ -7,7 +7,7 @@ pub enum Coalesced {
     OneRecord,
     /// Its records are joined into one.
     Joined {
-        /// How many there were: 2 to 64.
+        /// How many there were.
         records: u16,
     },
 }

@@ -30,10 +30,6 @@ impl JoinRooms {
         let kept = Kept::new(alloc)?;
         let record = Bytes::with_room(alloc, RECORD_BYTES)?;
         let runs = RunList::new(alloc)?;
-        Ok(JoinRooms {
-            kept,
-            record,
-            runs,
-        })
+        Ok(JoinRooms { kept, record, runs })
     }
 }

@@ -8,6 +8,7 @@ use Rattle.ckpt_program.specs.Sight.{sight}
 use Rattle.ckpt_program.specs.Stage.{Comes}
 use Rattle.ckpt_program.proofs.Disks.{stays_still, calm_still, calm_disk_still}
 use Rattle.ckpt_program.proofs.Living.{keeps_still, keeps_stays, images_stay}
+use Rattle.ckpt_program.proofs.Ordering.{told_joined, told_cleared}
 use Rattle.ckpt_program.proofs.Running.{named_stand, told_run, told_restart}
 use Rattle.ckpt_program.proofs.top.carry.Goals as goal
 
@@ -84,61 +85,61 @@ pub returns-in-Check-clause-moments : goal.returns-in-Check-clause-moments
 returns-in-Check-clause-moments g c = rw c.in-Check.is (λ told s none. absurd none)
 
 pub returns-in-Check-clause-later : goal.returns-in-Check-clause-later
-returns-in-Check-clause-later g c = let v = g.D.Disk.view c.args.disk.now in images_stay v v (g.met.D.Disk.tells_all c.args.disk.now) (stays_still v (g.met.D.Disk.lawful c.args.disk.now))
+returns-in-Check-clause-later g c = λ spares. let v = g.D.Disk.view c.args.disk.now in images_stay v v (g.met.D.Disk.tells_all c.args.disk.now) (stays_still v (g.met.D.Disk.lawful c.args.disk.now))
 
 pub returns-in-Check-clause-told : goal.returns-in-Check-clause-told
 returns-in-Check-clause-told g c = rw c.in-Check.is tt
 
 pub returns-in-Check-clause-lasting : goal.returns-in-Check-clause-lasting
-returns-in-Check-clause-lasting g c = rw c.in-Check.is (λ lives. absurd (lives tt))
+returns-in-Check-clause-lasting g c = rw c.in-Check.is (λ life. absurd life)
 
 pub returns-in-Compile-clause-moments : goal.returns-in-Compile-clause-moments
 returns-in-Compile-clause-moments g c = rw c.in-Compile.is (λ told s none. absurd none)
 
 pub returns-in-Compile-clause-later : goal.returns-in-Compile-clause-later
-returns-in-Compile-clause-later g c = let v = g.D.Disk.view c.args.disk.now in images_stay v v (g.met.D.Disk.tells_all c.args.disk.now) (stays_still v (g.met.D.Disk.lawful c.args.disk.now))
+returns-in-Compile-clause-later g c = λ spares. let v = g.D.Disk.view c.args.disk.now in images_stay v v (g.met.D.Disk.tells_all c.args.disk.now) (stays_still v (g.met.D.Disk.lawful c.args.disk.now))
 
 pub returns-in-Compile-clause-told : goal.returns-in-Compile-clause-told
 returns-in-Compile-clause-told g c = rw c.in-Compile.is tt
 
 pub returns-in-Compile-clause-lasting : goal.returns-in-Compile-clause-lasting
-returns-in-Compile-clause-lasting g c = rw c.in-Compile.is (λ lives. absurd (lives tt))
+returns-in-Compile-clause-lasting g c = rw c.in-Compile.is (λ life. absurd life)
 
 pub returns-in-Report-clause-moments : goal.returns-in-Report-clause-moments
 returns-in-Report-clause-moments g c = rw c.in-Report.is (λ told s none. absurd none)
 
 pub returns-in-Report-clause-later : goal.returns-in-Report-clause-later
-returns-in-Report-clause-later g c = let v = g.D.Disk.view c.args.disk.now in images_stay v v (g.met.D.Disk.tells_all c.args.disk.now) (stays_still v (g.met.D.Disk.lawful c.args.disk.now))
+returns-in-Report-clause-later g c = λ spares. let v = g.D.Disk.view c.args.disk.now in images_stay v v (g.met.D.Disk.tells_all c.args.disk.now) (stays_still v (g.met.D.Disk.lawful c.args.disk.now))
 
 pub returns-in-Report-clause-told : goal.returns-in-Report-clause-told
 returns-in-Report-clause-told g c = rw c.in-Report.is tt
 
 pub returns-in-Report-clause-lasting : goal.returns-in-Report-clause-lasting
-returns-in-Report-clause-lasting g c = rw c.in-Report.is (λ lives. absurd (lives tt))
+returns-in-Report-clause-lasting g c = rw c.in-Report.is (λ life. absurd life)
 
 pub returns-in-Plain-clause-moments : goal.returns-in-Plain-clause-moments
 returns-in-Plain-clause-moments g c = rw c.in-Plain.is (λ told s none. absurd none)
 
 pub returns-in-Plain-clause-later : goal.returns-in-Plain-clause-later
-returns-in-Plain-clause-later g c = let v = g.D.Disk.view c.args.disk.now in images_stay v v (g.met.D.Disk.tells_all c.args.disk.now) (stays_still v (g.met.D.Disk.lawful c.args.disk.now))
+returns-in-Plain-clause-later g c = λ spares. let v = g.D.Disk.view c.args.disk.now in images_stay v v (g.met.D.Disk.tells_all c.args.disk.now) (stays_still v (g.met.D.Disk.lawful c.args.disk.now))
 
 pub returns-in-Plain-clause-told : goal.returns-in-Plain-clause-told
 returns-in-Plain-clause-told g c = rw c.in-Plain.is tt
 
 pub returns-in-Plain-clause-lasting : goal.returns-in-Plain-clause-lasting
-returns-in-Plain-clause-lasting g c = rw c.in-Plain.is (λ lives. absurd (lives tt))
+returns-in-Plain-clause-lasting g c = rw c.in-Plain.is (λ life. absurd life)
 
 pub returns-in-Images-clause-moments : goal.returns-in-Images-clause-moments
 returns-in-Images-clause-moments g c = rw c.in-Images.is (λ told s none. absurd none)
 
 pub returns-in-Images-clause-later : goal.returns-in-Images-clause-later
-returns-in-Images-clause-later g c = images_stay (g.D.Disk.view c.args.disk.now) (g.D.Disk.view c.images.new.disk) (g.met.D.Disk.tells_all c.args.disk.now) c.images.ensures.stays
+returns-in-Images-clause-later g c = λ spares. images_stay (g.D.Disk.view c.args.disk.now) (g.D.Disk.view c.images.new.disk) (g.met.D.Disk.tells_all c.args.disk.now) c.images.ensures.stays
 
 pub returns-in-Images-clause-told : goal.returns-in-Images-clause-told
 returns-in-Images-clause-told g c = rw c.in-Images.is tt
 
 pub returns-in-Images-clause-lasting : goal.returns-in-Images-clause-lasting
-returns-in-Images-clause-lasting g c = rw c.in-Images.is (λ lives. absurd (lives tt))
+returns-in-Images-clause-lasting g c = rw c.in-Images.is (λ life. absurd life)
 
 pub returns-in-Run-clause-answer : goal.returns-in-Run-clause-answer
 returns-in-Run-clause-answer g c =
@@ -181,3 +182,63 @@ returns-in-Restart-clause-moments g c =
 pub returns-in-Restart-clause-told : goal.returns-in-Restart-clause-told
 returns-in-Restart-clause-told g c =
     rw c.in-Restart.is (told_restart c.args.words.now (sight (g.H.Shelf.view c.args.shelf.now)) (g.D.Disk.view c.args.disk.now) (g.D.Disk.view c.live_job-in-Restart.new.disk) c.live_job-in-Restart.result c.in-Restart.source c.in-Restart.input c.in-Restart.dir c.in-Restart.settings c.in-Restart.fill c.word-in-Restart.result.now c.word-in-Restart-2.result.now c.word-in-Restart.ensures.answer c.word-in-Restart-2.ensures.answer c.live_job-in-Restart.ensures.told)
+
+pub returns-in-Run-clause-later : goal.returns-in-Run-clause-later
+returns-in-Run-clause-later g c = λ spares. c.live_job.ensures.later
+
+pub returns-in-Run-clause-lasting : goal.returns-in-Run-clause-lasting
+returns-in-Run-clause-lasting g c = λ life. c.live_job.ensures.lasting
+
+pub returns-in-Restart-clause-later : goal.returns-in-Restart-clause-later
+returns-in-Restart-clause-later g c = λ spares. c.live_job-in-Restart.ensures.later
+
+pub returns-in-Restart-clause-lasting : goal.returns-in-Restart-clause-lasting
+returns-in-Restart-clause-lasting g c = λ life. c.live_job-in-Restart.ensures.lasting
+
+pub returns-in-Coalesce-clause-answer : goal.returns-in-Coalesce-clause-answer
+returns-in-Coalesce-clause-answer g c = rw c.in-Coalesce.is c.coalesce.ensures.answer
+
+pub returns-in-Coalesce-clause-calm : goal.returns-in-Coalesce-clause-calm
+returns-in-Coalesce-clause-calm g c = calm_still c.coalesce.result (sight (g.H.Shelf.view c.args.shelf.now))
+
+pub returns-in-Coalesce-clause-quiet : goal.returns-in-Coalesce-clause-quiet
+returns-in-Coalesce-clause-quiet g c = rw c.in-Coalesce.is (λ quiet. absurd quiet)
+
+pub returns-in-Coalesce-clause-stays : goal.returns-in-Coalesce-clause-stays
+returns-in-Coalesce-clause-stays g c = rw c.in-Coalesce.is (λ kept. absurd kept)
+
+pub returns-in-Coalesce-clause-moments : goal.returns-in-Coalesce-clause-moments
+returns-in-Coalesce-clause-moments g c = rw c.in-Coalesce.is (λ told s is stand. c.coalesce.ensures.moments told s is stand)
+
+pub returns-in-Coalesce-clause-later : goal.returns-in-Coalesce-clause-later
+returns-in-Coalesce-clause-later g c = λ spares. c.coalesce.ensures.later
+
+pub returns-in-Coalesce-clause-told : goal.returns-in-Coalesce-clause-told
+returns-in-Coalesce-clause-told g c = rw c.in-Coalesce.is (told_joined c.args.words.now (sight (g.H.Shelf.view c.args.shelf.now)) (g.D.Disk.view c.args.disk.now) (g.D.Disk.view c.coalesce.new.disk) c.coalesce.result c.in-Coalesce.dir c.coalesce.ensures.joins)
+
+pub returns-in-Coalesce-clause-lasting : goal.returns-in-Coalesce-clause-lasting
+returns-in-Coalesce-clause-lasting g c = rw c.in-Coalesce.is (λ life. absurd life)
+
+pub returns-in-Clear-clause-answer : goal.returns-in-Clear-clause-answer
+returns-in-Clear-clause-answer g c = rw c.in-Clear.is c.clear.ensures.answer
+
+pub returns-in-Clear-clause-calm : goal.returns-in-Clear-clause-calm
+returns-in-Clear-clause-calm g c = calm_still c.clear.result (sight (g.H.Shelf.view c.args.shelf.now))
+
+pub returns-in-Clear-clause-quiet : goal.returns-in-Clear-clause-quiet
+returns-in-Clear-clause-quiet g c = rw c.in-Clear.is (λ quiet. absurd quiet)
+
+pub returns-in-Clear-clause-stays : goal.returns-in-Clear-clause-stays
+returns-in-Clear-clause-stays g c = rw c.in-Clear.is (λ kept. absurd kept)
+
+pub returns-in-Clear-clause-moments : goal.returns-in-Clear-clause-moments
+returns-in-Clear-clause-moments g c = rw c.in-Clear.is (λ told s is stand. c.clear.ensures.moments told s is stand)
+
+pub returns-in-Clear-clause-later : goal.returns-in-Clear-clause-later
+returns-in-Clear-clause-later g c = rw c.in-Clear.is (λ spares. absurd spares)
+
+pub returns-in-Clear-clause-told : goal.returns-in-Clear-clause-told
+returns-in-Clear-clause-told g c = rw c.in-Clear.is (told_cleared c.args.words.now (sight (g.H.Shelf.view c.args.shelf.now)) (g.D.Disk.view c.args.disk.now) (g.D.Disk.view c.clear.new.disk) c.clear.result c.in-Clear.dir c.clear.ensures.clears)
+
+pub returns-in-Clear-clause-lasting : goal.returns-in-Clear-clause-lasting
+returns-in-Clear-clause-lasting g c = rw c.in-Clear.is (λ life. absurd life)

@@ -6,7 +6,7 @@ use Rattle.ckpt_program.specs.Sight.{sight}
 use Rattle.ckpt_program.specs.declared.stop.Stop.TheVariants.{NoMemory}
 use Rattle.ckpt_program.proofs.Completeness.{complete}
 use Rattle.ckpt_program.proofs.Disks.{stays_moments, stays_lasting, blamed_disk, calm_later}
-use Rattle.ckpt_program.proofs.Lasting.{lasts_refused, ends_as_source, none_told, output_lasting}
+use Rattle.ckpt_program.proofs.Lasting.{lasts_refused, ends_as_source, in_order, none_told, output_lasting}
 use Rattle.ckpt_program.proofs.top.ckpt.Goals as goal
 
 pub returns-clause-answer : goal.returns-clause-answer
@@ -43,7 +43,7 @@ returns-clause-lasting g c =
     let command = command_of c.args.words.now.items in
     let console = g.K.Sink.view in
     ⊎_elim (λ told. output_lasting command w c.come_to-came.result (console c.args.console.now) (console c.tell.new.console) c.tell.result c.come_to-came.ensures.lasting told)
-    (λ told. output_lasting command w (Err NoMemory) (console c.args.console.now) (console c.tell.new.console) c.tell.result (λ lives. tt) told) c.tell.ensures.answer
+    (λ told. output_lasting command w (Err NoMemory) (console c.args.console.now) (console c.tell.new.console) c.tell.result (λ life. tt) told) c.tell.ensures.answer
 
 pub returns-clause-blamed_disk : goal.returns-clause-blamed_disk
 returns-clause-blamed_disk g c = blamed_disk c.come_to-came.result _ _ c.tell.result c.come_to-came.ensures.count c.tell.ensures.fixed
@@ -59,3 +59,14 @@ returns-clause-complete g c =
 
 pub returns-clause-steady : goal.returns-clause-steady
 returns-clause-steady g c = (calm_later c.come_to-came.result (sight (g.H.Shelf.view c.args.shelf.now)) (sight (g.H.Shelf.view c.come_to-came.new.shelf)) c.come_to-came.ensures.calm, c.come_to-came.ensures.keeps.steady)
+
+pub returns-clause-in_order : goal.returns-clause-in_order
+returns-clause-in_order g c =
+    let shelf = sight (g.H.Shelf.view c.args.shelf.now) in
+    let v = g.D.Disk.view c.args.disk.now in
+    let w = g.D.Disk.view c.come_to-came.new.disk in
+    let console = g.K.Sink.view in
+    let words = c.args.words.now.items in
+    let command = command_of words in
+    ⊎_elim (λ told. in_order words command shelf v w c.come_to-came.result (console c.args.console.now) (console c.tell.new.console) c.tell.result c.come_to-came.ensures.told told)
+    (λ told. in_order words command shelf v w (Err NoMemory) (console c.args.console.now) (console c.tell.new.console) c.tell.result (none_told words command shelf v w NoMemory) told) c.tell.ensures.answer

@@ -1,4 +1,6 @@
-use Rattle.std.proofs.Common.{Err}
+use Rattle.std.proofs.Common.{◌∙◌, sym, subst, Option, Err}
+use Rattle.command_words.specs.declared.command.Command.{Command}
+use Rattle.ckpt_program.specs.Top.{NoImageLost}
 use Rattle.std.proofs.lemmas.Result.{err_from_is_err_and}
 use Rattle.ckpt_program.specs.Headline.{SourceOf}
 use Rattle.ckpt_program.specs.declared.done.Done.{Done}
@@ -36,10 +38,15 @@ returns-in-None-clause-moments g c =
     standing_stays (SourceOf words (command_of words) (sight (g.H.Shelf.view c.args.shelf.now))) v v (g.met.D.Disk.tells_all c.args.disk.now) (stays_still v (g.met.D.Disk.lawful c.args.disk.now))
 
 pub returns-in_err-command-clause-later : goal.returns-in_err-command-clause-later
-returns-in_err-command-clause-later g c = let v = g.D.Disk.view c.args.disk.now in images_stay v v (g.met.D.Disk.tells_all c.args.disk.now) (stays_still v (g.met.D.Disk.lawful c.args.disk.now))
+returns-in_err-command-clause-later g c = λ spares. let v = g.D.Disk.view c.args.disk.now in images_stay v v (g.met.D.Disk.tells_all c.args.disk.now) (stays_still v (g.met.D.Disk.lawful c.args.disk.now))
+
+pub returns-in-Some-clause-later : goal.returns-in-Some-clause-later
+returns-in-Some-clause-later g c =
+    let kept = λ (x : Option Command). NoImageLost x (g.D.Disk.view c.args.disk.now) (g.D.Disk.view c.carry.new.disk) in
+    subst kept (sym c.in-Some.is ∙ c.in_ok-command.ensures.answer) c.carry.ensures.later
 
 pub returns-in-None-clause-later : goal.returns-in-None-clause-later
-returns-in-None-clause-later g c = let v = g.D.Disk.view c.args.disk.now in images_stay v v (g.met.D.Disk.tells_all c.args.disk.now) (stays_still v (g.met.D.Disk.lawful c.args.disk.now))
+returns-in-None-clause-later g c = λ spares. let v = g.D.Disk.view c.args.disk.now in images_stay v v (g.met.D.Disk.tells_all c.args.disk.now) (stays_still v (g.met.D.Disk.lawful c.args.disk.now))
 
 pub returns-in_err-command-clause-told : goal.returns-in_err-command-clause-told
 returns-in_err-command-clause-told g c =

@@ -1,7 +1,10 @@
 use Rattle.std.proofs.Common.{sym, subst, IsTrue}
+use Rattle.disk_model.specs.declared.disk_file.DiskFile.TheVariants.{Output}
+use Rattle.disk_model.proofs.Calls.{stays_twice}
+use Rattle.life_journal.proofs.BesideLaws.{same_file}
 use Rattle.ckpt_runner.proofs.GoodOpening.{old_standing, old_later, standing_twice}
 use Rattle.ckpt_runner.proofs.StandingThen.{images_after}
-use Rattle.store_upkeep.proofs.CoalescedLaws.{opened_coalesced, opened_moments, opened_then}
+use Rattle.store_upkeep.proofs.CoalescedLaws.{opened_coalesced, opened_alone, opened_then}
 use Rattle.store_upkeep.proofs.joining.join_records.Goals as goal
 
 pub returns-in_err-open-clause-standing : goal.returns-in_err-open-clause-standing
@@ -50,5 +53,24 @@ returns-clause-later g c =
 
 pub returns-clause-answer : goal.returns-clause-answer
 returns-clause-answer g c = λ told.
-    opened_coalesced c.in_ok-join_chain-in-Some.field-0 (g.D.Disk.view c.args.disk.now) (g.D.Disk.view c.open.new.disk) (g.D.Disk.view c.join_chain.new.disk) (c.open.ensures.same told) (c.open.ensures.output told)
+    opened_coalesced c.in_ok-join_chain-in-Some.field-0 (g.D.Disk.view c.args.disk.now) (g.D.Disk.view c.open.new.disk) (g.D.Disk.view c.join_chain.new.disk) (c.open.ensures.same told)
     (c.in_ok-join_chain-in-Some.ensures.answer (subst IsTrue (sym c.open.ensures.steady.tells) told))
+
+pub returns-clause-alone : goal.returns-clause-alone
+returns-clause-alone g c =
+    opened_alone c.in_ok-join_chain-in-Some.field-0 (g.D.Disk.view c.args.disk.now) (g.D.Disk.view c.open.new.disk) (g.D.Disk.view c.join_chain.new.disk) c.open.ensures.steady.tells c.in_ok-join_chain-in-Some.ensures.chain c.open.ensures.same c.open.ensures.any_moment
+    c.in_ok-join_chain-in-Some.ensures.alone
+
+pub returns-in_err-join_chain-in-Some-clause-output : goal.returns-in_err-join_chain-in-Some-clause-output
+returns-in_err-join_chain-in-Some-clause-output g c = λ told.
+    stays_twice Output (g.D.Disk.view c.args.disk.now) (g.D.Disk.view c.open.new.disk) (g.D.Disk.view c.join_chain.new.disk) (c.open.ensures.output told) (c.join_chain.ensures.output (subst IsTrue (sym c.open.ensures.steady.tells) told))
+
+pub returns-clause-output : goal.returns-clause-output
+returns-clause-output g c = λ told.
+    stays_twice Output (g.D.Disk.view c.args.disk.now) (g.D.Disk.view c.open.new.disk) (g.D.Disk.view c.join_chain.new.disk) (c.open.ensures.output told) (c.join_chain.ensures.output (subst IsTrue (sym c.open.ensures.steady.tells) told))
+
+pub returns-in_err-room-clause-output : goal.returns-in_err-room-clause-output
+returns-in_err-room-clause-output g c = λ told. same_file Output (g.D.Disk.view c.args.disk.now)
+
+pub returns-in_err-rooms-clause-output : goal.returns-in_err-rooms-clause-output
+returns-in_err-rooms-clause-output g c = λ told. same_file Output (g.D.Disk.view c.args.disk.now)
