@@ -1,0 +1,2 @@
+-- the generated program
+pub mod Generated
