@@ -50,6 +50,7 @@ source_read source input old new j s read is =
       program = tree_is ∙ ap (λ (k : Job). k.program) (sym job_is);
       input = input_is ∙ ap (λ (k : Job). k.input.list) (sym job_is);
       marks = is.marks ∙ ap (λ (t : List ℕ). digests_of t s.input) (text_is ∙ ap (λ (k : Job). k.text.list) (sym job_is)) ∙ ap (λ (i : List ℕ). digests_of j.text.list i) (input_is ∙ ap (λ (k : Job). k.input.list) (sym job_is));
+      spaced = is.spaced;
       is = is.is;
     }
 
@@ -61,6 +62,7 @@ source_given j a c m bytes text s is text_is input_is code of = record {
   compiled = code s of.is of.program;
   marks = of.marks ∙ ap (λ (t : List ℕ). digests_of t j.input.list) (sym text_is) ∙ ap (λ (i : List ℕ). digests_of text i) (sym input_is) ∙ sym is;
   input = of.input ∙ sym input_is;
+  spaced = of.spaced a.settings.every;
 }
 
 -- what is said of all such sources is said of these

@@ -1,5 +1,5 @@
 -- The main theorem: on a store that stands for the source of its files, a command that lives ends as the source's run does, and a crash at every moment leaves a store that stands.
-use Rattle.std.specs.Prelude.{◌≡◌, ℕ, List, ◌++◌, IsTrue, Option, Some, None, Result, Ok}
+use Rattle.std.specs.Prelude.{◌≡◌, ℕ, true, List, ◌++◌, IsTrue, Option, Some, None, Result, Ok}
 use Rattle.ckpt_base.specs.Shelf.{file_named}
 use Rattle.ckpt_base.specs.Sink.{SinkView}
 use Rattle.disk_model.specs.Store.{Store}
@@ -41,6 +41,8 @@ pub record IsSourceIn (source input : List ℕ) (shelf : Sight) (s : RunSource) 
   pub accepted : IsAccepted text s.program
   pub given : file_named shelf.files input ≡ Some s.input
   pub marks : s.marks ≡ digests_of text s.input
+  -- its images may lie apart as they will
+  pub spaced : (every : ℕ) → s.spaced every ≡ true
   pub is : IsSource s
 
 -- the source of a job that was read
@@ -48,6 +50,7 @@ pub record IsSourceOf (j : Job) (s : RunSource) : Type 0 where
   pub program : s.program ≡ j.program
   pub input : s.input ≡ j.input.list
   pub marks : s.marks ≡ digests_of j.text.list j.input.list
+  pub spaced : (every : ℕ) → s.spaced every ≡ true
   pub is : IsSource s
 
 -- the sources of which every moment is promised: that of the files that a command names, and each one where it names none

@@ -96,6 +96,7 @@ joined_for s every rs qs file are a = record {
   joined = joined_still rs qs (images_of s every a.newest.steps) are a.joined;
   begins = a.begins;
   words = λ c lt kept. same_words rs qs are c ∙ a.words c lt kept;
+  spaced = a.spaced;
 }
 
 joined_with : (s : Source) (every n : ℕ) (bytes : List ℕ) (rs qs : List Image) → StayOrJoin rs qs → StandWith s every n bytes rs → StandWith s every n bytes qs

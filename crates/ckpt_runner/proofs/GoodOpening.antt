@@ -1,5 +1,5 @@
 -- A store that stands for a source is opened.
-use Rattle.std.proofs.Common.{◌≡◌, refl, sym, ◌∙◌, ap, subst, ℕ, ◌≤◌, IsTrue, List, [], take, length, Some, None, Result, Ok, Err, IfOk}
+use Rattle.std.proofs.Common.{◌≡◌, refl, sym, ◌∙◌, ap, subst, ℕ, ◌≤◌, true, IsTrue, List, [], take, length, Some, None, Result, Ok, Err, IfOk}
 use Rattle.disk_model.specs.Store.{Store}
 use Rattle.disk_model.specs.View.{View, IsDisk}
 use Rattle.disk_model.specs.Moments.{Among, LeavesOnly}
@@ -41,12 +41,12 @@ use Rattle.ckpt_runner.proofs.ResumedLaws.{IsResumedLife, resumed_at, resumed_op
 -- ---- what of the source is given
 
 abbrev pub BegunLaw : Type 0
-BegunLaw = (s : Source) (c : CompiledView) (every : ℕ) → IsSource s → IsCompiled s c → IsOfSource s (begun_at c s.marks every s.input)
+BegunLaw = (s : Source) (c : CompiledView) (every : ℕ) → IsSource s → IsCompiled s c → s.spaced every ≡ true → IsOfSource s (begun_at c s.marks every s.input)
 
 pub begun_of : BegunLaw → (g : Given) (s : Source) → IsGivenSource g s → IsOfSource s (begun_at g.compiled g.marks g.every g.input)
 begun_of law g s is =
     subst (λ (m : Marks). IsOfSource s (begun_at g.compiled m g.every g.input)) is.marks
-    (subst (λ (l : List ℕ). IsOfSource s (begun_at g.compiled s.marks g.every l)) is.input (law s g.compiled g.every is.source is.compiled))
+    (subst (λ (l : List ℕ). IsOfSource s (begun_at g.compiled s.marks g.every l)) is.input (law s g.compiled g.every is.source is.compiled is.spaced))
 
 abbrev pub ResumedLaw : Type 0
 ResumedLaw = (s : Source) (c : CompiledView) (every fill : ℕ) (rs : List Image) (file : List ℕ) (o : Origin) → IsSource s → IsCompiled s c → StandsFor s every rs file → IsResumedAt c s.marks every fill s.input rs file o → IsOfSource s o

@@ -1,5 +1,5 @@
 -- What calls on a life of a source keep of its store: at every moment a crash leaves a store that stands, and no image is lost.
-use Rattle.std.specs.Prelude.{◌≡◌, ℕ, ◌≤◌, List, [], Some, None, Ok, IsTrue}
+use Rattle.std.specs.Prelude.{◌≡◌, ℕ, ◌≤◌, true, List, [], Some, None, Ok, IsTrue}
 use Rattle.ckpt_base.specs.declared.ending.Ending.{Ending}
 use Rattle.ckpt_base.specs.Event.{Event}
 use Rattle.disk_model.specs.Store.{Store}
@@ -63,6 +63,7 @@ pub record IsGivenSource (g : Given) (s : Source) : Type 0 where
   pub compiled : IsCompiled s g.compiled
   pub marks : s.marks ≡ g.marks
   pub input : s.input ≡ g.input
+  pub spaced : s.spaced g.every ≡ true
 
 -- On a store that stands for its source a life is opened as a life of that, and what it keeps on its disk is good.
 abbrev pub OpensGood : Given → LifeView → View → View → Type 0

@@ -1,5 +1,5 @@
 -- calls on a life, one after another
-mod DriveLaws
+pub mod DriveLaws
 -- a life that was opened, driven and finished
 mod LiveLaws
 -- a life whose store stood for its source

@@ -242,8 +242,8 @@ module _ (laws : RunLaws) (s : Source) (is : IsSource s) (code : CodeView) (mean
 
 -- ---- the two origins
 
-pub begun_is_of_source : RunLaws → CodeLaws → (s : Source) (c : CompiledView) (every : ℕ) → IsSource s → IsCompiled s c → IsOfSource s (begun_at c s.marks every s.input)
-begun_is_of_source laws codes s c every is compiled = record {
+pub begun_is_of_source : RunLaws → CodeLaws → (s : Source) (c : CompiledView) (every : ℕ) → IsSource s → IsCompiled s c → s.spaced every ≡ true → IsOfSource s (begun_at c s.marks every s.input)
+begun_is_of_source laws codes s c every is compiled spaced = record {
   like = record {
     alike = λ n r run. subst (λ k. EndAlike (run_of s k) r) (sym (from_zero n)) (subst (EndAlike (run_of s n)) (laws.one c.code (world_at 0 start) n (run_of s n) r (runs n) (subst (λ w. CodeRun c.code w n r) world_is run)) (record { events = refl; ending = refl; ticks = refl }));
     passes = λ w node more reaches events.
@@ -254,6 +254,7 @@ begun_is_of_source laws codes s c every is compiled = record {
   since = sym (ap (λ l. since_after every l at_first) none);
   output = sym (ap output none);
   records = ap (images (taking_of s every)) none;
+  spaced = spaced;
 }
   where
     start : State
@@ -286,6 +287,7 @@ resumed_is_of_source laws codes s c every fill rs file o is compiled stands at =
       ∙ ap (λ e. since_after e (run_of s stands.newest.steps).events at_first) (sym every_is) ∙ ap (λ t. since_after o.taking.every (run_of s t).events at_first) (sym ticks_is);
   output = at.output ∙ ap (λ (x : Fields). take x.output_length file) same ∙ ap (λ n. take n file) (output_is laws s is c.code compiled.code codes every rs file stands) ∙ stands.begins ∙ ap (output_of s) (sym ticks_is);
   records = subst (λ l. IsJoinedList l (images_of s o.taking.every o.state.ticks)) (sym at.records) (subst (λ t. IsJoinedList rs (images_of s o.taking.every t)) (sym ticks_is) (subst (λ e. IsJoinedList rs (images_of s e stands.newest.steps)) (sym every_is) stands.joined));
+  spaced = ap s.spaced every_is ∙ stands.spaced;
 }
   where
     same : at.newest ≡ stands.newest

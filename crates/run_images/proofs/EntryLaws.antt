@@ -42,4 +42,5 @@ module _ (s : Source) (c : CompiledView) (every fill : ℕ) (rs : List Image) (f
         joined = subst (λ e. IsJoinedList rs (images_of s e stands.newest.steps)) (sym (ap (λ (t : Taking). t.every) at.taking)) stands.joined;
         begins = ap (take (length out)) (at.output ∙ ap (λ (x : Fields). take x.output_length file) newest_same) ∙ take-take (length out) stands.newest.output_length file (omega (arith, long)) ∙ stands.begins;
         words = stands.words;
+        spaced = ap (λ (t : Taking). s.spaced t.every) at.taking ∙ stands.spaced;
       }

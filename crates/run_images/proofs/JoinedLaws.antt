@@ -32,6 +32,7 @@ joined_stands s every rs r file a j =
       joined = joined_joins rs r (images_of s every a.newest.steps) a.joined j;
       begins = a.begins;
       words = λ c lt kept. j.words c ∙ a.words c lt kept;
+      spaced = a.spaced;
     }
   where
     field_is : (o : Option Fields) (a b : Fields) → o ≡ Some a → o ≡ Some b → a ≡ b

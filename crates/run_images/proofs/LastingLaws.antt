@@ -40,6 +40,7 @@ still_stand s every n m bytes more rs le fits (inr a) =
       joined = a.joined;
       begins = take-take k m (bytes ++ more) (omega (arith, short, le)) ∙ take-append-le k bytes more (omega (arith, short, fits)) ∙ sym (take-take k n bytes short) ∙ a.begins;
       words = a.words;
+      spaced = a.spaced;
     })
 
 -- ---- what a store needs that stands

@@ -124,6 +124,7 @@ module _ (s : Source) (o : Origin) (of : IsOfSource s o) where
           (joined_grow rs r (images (taking_of s every) (before ++ es)) (taken_at (taking_of s every) node t (since_after every (before ++ es) at_first)) joined image));
       begins = subst StandAt (sym steps_are) (ap (λ l. take (length l) (o.output ++ output es)) output_is ∙ take_all (length (o.output ++ output es)) (o.output ++ output es) (omega arith) ∙ sym output_is);
       words = λ c lt kept. holds c lt (subst (λ n. IsForgettable s.graph c n → ⊥) node_is kept) ∙ ap (λ v. Some v) (sym (there.words c (subst (λ n. IsForgettable s.graph c n → ⊥) node_is kept)) ∙ ap (λ n. slice_index (run_of s n).memory c) (sym steps_are));
+      spaced = of.spaced;
     }
 
     some_is : (x y : Fields) → Some x ≡ Some y → x ≡ y

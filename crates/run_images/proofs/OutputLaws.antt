@@ -25,7 +25,7 @@ module _ (f : DiskFile) (c d : Store) (same : file_of f c ≡ file_of f d) where
 
 -- other bytes behind the front that they need
 pub stands_on : (s : Source) (n every : ℕ) (rs : List Image) (x y : List ℕ) → take n y ≡ take n x → (a : StandsFor s every rs x) → length (output_of s a.newest.steps) ≤ n → StandsFor s every rs y
-stands_on s n every rs x y e a le = record { newest = a.newest; newest_is = a.newest_is; joined = a.joined; begins = front_stays n (output_of s a.newest.steps) x y le e a.begins; words = a.words }
+stands_on s n every rs x y e a le = record { newest = a.newest; newest_is = a.newest_is; joined = a.joined; begins = front_stays n (output_of s a.newest.steps) x y le e a.begins; words = a.words; spaced = a.spaced }
 
 pub grow_behind : (s : Source) (n m : ℕ) (d c : Store) → n ≤ m → StandsWithin s n d → IsBehind m d c → StandsWithin s n c
 grow_behind s n m d c le a is = record {

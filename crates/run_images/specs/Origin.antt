@@ -92,3 +92,4 @@ pub record IsOfSource (s : Source) (o : Origin) : Type 0 where
   pub since : o.since ≡ since_after o.taking.every (events_before s o) at_first
   pub output : o.output ≡ output_of s o.state.ticks
   pub records : IsJoinedList o.records (images_of s o.taking.every o.state.ticks)
+  pub spaced : s.spaced o.taking.every ≡ true

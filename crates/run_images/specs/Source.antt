@@ -1,5 +1,5 @@
 -- A program with its input, and its run.
-use Rattle.std.specs.Prelude.{ℕ, ◌≤◌, List, length}
+use Rattle.std.specs.Prelude.{ℕ, ◌≤◌, Bool, List, length}
 use Rattle.ckpt_base.specs.Run.{Run, output}
 use Rattle.c_tree.specs.declared.resolved.Resolved.{Resolved}
 use Rattle.c_tree.specs.Layout.{cell_count}
@@ -19,6 +19,8 @@ pub record Source : Type 0 where
   -- the effect graph of `main`, and its excluded sets
   pub graph : effects.Graph
   pub sets : Sets
+  -- how many steps may lie between two images of a store for it, at least
+  pub spaced : ℕ → Bool
 
 -- the program is checked, the graph and the sets are its own, and the input is no longer than an image can tell
 pub record IsSource (s : Source) : Type 0 where

@@ -1,5 +1,5 @@
 -- A store that stands for a source: each of its chains has the images of the source's run up to some checkpoint, with the memory that the run had there.
-use Rattle.std.specs.Prelude.{◌≡◌, ◌≢◌, ◌⊎◌, ℕ, ◌<◌, ◌≤◌, List, [], length, take, Option, Some, None, Ok}
+use Rattle.std.specs.Prelude.{◌≡◌, ◌≢◌, ◌⊎◌, ℕ, ◌<◌, ◌≤◌, true, List, [], length, take, Option, Some, None, Ok}
 use Rattle.disk_model.specs.declared.disk_file.DiskFile.{DiskFile}
 use Rattle.disk_model.specs.declared.disk_file.DiskFile.TheVariants.{Output, One, Two}
 use Rattle.disk_model.specs.Store.{Store, file_of}
@@ -23,6 +23,7 @@ pub record StandsFor (s : Source) (every : ℕ) (rs : List Image) (file : List �
   pub joined : IsJoinedList rs (images_of s every newest.steps)
   pub begins : take (length (output_of s newest.steps)) file ≡ output_of s newest.steps
   pub words : HoldWords s newest.node rs (run_of s newest.steps).memory
+  pub spaced : s.spaced every ≡ true
 
 -- Each chain of the store stands for the source, whichever of the two a crash makes current.
 pub record Stands (s : Source) (c : Store) : Type 0 where

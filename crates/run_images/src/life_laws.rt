@@ -1,6 +1,6 @@
 // Laws of lives and their source: functions that do nothing, whose contracts are theorems.
 
-ghost use Rattle.std.specs.Prelude.{◌≡◌, ℕ, ◌≤◌, List, [], ◌∷◌, ◌++◌};
+ghost use Rattle.std.specs.Prelude.{◌≡◌, ℕ, ◌≤◌, true, List, [], ◌∷◌, ◌++◌};
 ghost use Rattle.ckpt_base.specs.Event.{Event};
 ghost use Rattle.ckpt_base.specs.Run.{Run};
 ghost use Rattle.image_format.specs.Image.{Image};
@@ -18,7 +18,8 @@ use machine_code::{runs_give_one_answer, runs_pass_what_they_reach, runs_show_wh
 
 /// A life that begins is of its source: its run goes like the source's from the start.
 pub fn begun_lives_are_of_their_source()
-    ensures law { (s : Source) (c : CompiledView) (every : ℕ) → IsSource s → IsCompiled s c → IsOfSource s (begun_at c s.marks every s.input) }
+    ensures law { (s : Source) (c : CompiledView) (every : ℕ) → IsSource s → IsCompiled s c
+        → s.spaced every ≡ true → IsOfSource s (begun_at c s.marks every s.input) }
 {
     runs_give_one_answer();
     runs_show_what_they_do();

@@ -6,10 +6,10 @@ use Rattle.one_life.proofs.laws.begun_lives_come_to_what_is_meant.Goals as goal
 
 pub returns : goal.returns
 returns c = record {
-  law = λ s p every until es l is compiled runs.
+  law = λ s p every until es l is compiled spaced runs.
       let o = begun_at p s.marks every s.input in
       let start : o.state.ticks ≤ until = omega arith in
-      let of = c.begun_lives_are_of_their_source.ensures.law s p every is compiled in
+      let of = c.begun_lives_are_of_their_source.ensures.law s p every is compiled spaced in
       let ends = c.lives_end_as_their_source.ensures.law s o until (record { events = es; memory = runs.0; ending = l.ending; ticks = l.steps }) of start runs.1 in
       record {
         ending = sym ends.ending;
