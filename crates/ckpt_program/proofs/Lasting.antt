@@ -21,7 +21,7 @@ use Rattle.ckpt_program.specs.Texts.{ending_status, status_of}
 use Rattle.ckpt_program.specs.Told.{Takes, TakesAll, TakesPart, Tells, HasFixedLine, HasTextAtHand, IsDone, IsEnding}
 use Rattle.ckpt_program.specs.Rows as row
 use Rattle.ckpt_program.specs.Top.{IsLife, KeepsContents, LastsOutput}
-use Rattle.ckpt_program.specs.Upkeep.{JoinsAsTold, TellsCleared, TellsJoined, joined_text}
+use Rattle.ckpt_program.specs.Upkeep.{TellsCleared, TellsJoined, joined_text}
 use Rattle.store_upkeep.specs.declared.coalesced.Coalesced.{Coalesced}
 use Rattle.ckpt_program.specs.declared.done.Done.{Done}
 use Rattle.ckpt_program.specs.declared.done.Done.TheVariants as done

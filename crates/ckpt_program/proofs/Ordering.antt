@@ -1,8 +1,6 @@
 -- What the commands come to that keep a store in order, and what they keep of the disk.
-use Rattle.std.proofs.Common.{◌≡◌, ◌≤◌, ◌++◌, refl, sym, ◌∙◌, ap, subst, inl, inr, ⊎_elim, ℕ, List, IsTrue, Option, Some, Result, Ok, Err, IfOk, OnOk, codes}
+use Rattle.std.proofs.Common.{◌≡◌, ◌≤◌, refl, sym, ◌∙◌, ap, subst, inl, inr, ⊎_elim, ℕ, List, IsTrue, Option, Some, Result, Ok, Err, IfOk, OnOk, codes}
 use Rattle.ckpt_base.specs.Faults.{Rose}
-use Rattle.ckpt_base.specs.Sink.{SinkView}
-use Rattle.command_words.specs.declared.command.Command.{Command}
 use Rattle.command_words.specs.declared.command.Command.TheVariants.{Coalesce, Clear}
 use Rattle.disk_model.specs.Store.{Store}
 use Rattle.disk_model.specs.declared.disk_file.DiskFile.TheVariants.{Output}

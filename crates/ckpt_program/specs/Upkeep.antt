@@ -1,5 +1,5 @@
 -- The stages of the commands that keep a store in order, each with its causes, and what these commands do to it.
-use Rattle.std.specs.Prelude.{◌≡◌, ◌≤◌, ℕ, List, [], codes, IsTrue, Some, None, Ok, Err}
+use Rattle.std.specs.Prelude.{◌≡◌, ◌≤◌, ℕ, List, codes, IsTrue, Some, None, Ok, Err}
 use Rattle.ckpt_base.specs.Faults.{Rose}
 use Rattle.disk_model.specs.Store.{Store}
 use Rattle.disk_model.specs.View.{View}

@@ -1,7 +1,6 @@
 -- A chain that is settled, and joined where it has two records or more.
 use Rattle.std.proofs.Common.{◌≡◌, refl, sym, ◌∙◌, ap, subst, ℕ, ◌+◌, ◌<◌, ◌≤◌, IsTrue, inl, inr, ⊎_elim, List, [], ◌∷◌, length, Option, Some, Ok, arith}
 use Rattle.disk_model.specs.declared.disk_file.DiskFile.{DiskFile}
-use Rattle.disk_model.specs.declared.disk_file.DiskFile.TheVariants.{Output}
 use Rattle.disk_model.specs.Store.{Store, file_of}
 use Rattle.disk_model.specs.View.{View, IsDisk}
 use Rattle.disk_model.specs.Moments.{Among, LeavesOnly}
