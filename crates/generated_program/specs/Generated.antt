@@ -1,5 +1,5 @@
 -- The generated program of n functions: its text, and its figures.
-use Rattle.std.specs.Prelude.{ℕ, zero, suc, ◌+◌, ◌*◌, ◌/◌, ◌%◌, List, [], ◌∷◌, ◌++◌, codes}
+use Rattle.std.specs.Prelude.{ℕ, zero, suc, ◌+◌, ◌*◌, ◌/◌, ◌%◌, List, [], ◌++◌, codes}
 use Rattle.std.specs.Fmt.{decimal}
 
 -- ---- the text
@@ -50,7 +50,7 @@ abbrev pub last_line : List ℕ
 last_line = codes "CHECKPOINT_HERE; } printf(\"%ld\\n\", w); return 0; }\n"
 
 -- the generated program of n functions
-abbrev pub generated : (n : ℕ) → List ℕ
+unfoldable pub generated : (n : ℕ) → List ℕ
 generated n = turns_line ++ each_below n (function_text n) ++ main_line ++ each_below n call_line ++ last_line
 
 -- ---- its figures

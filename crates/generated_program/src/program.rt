@@ -10,6 +10,7 @@ use std::alloc::{AllocError, Global};
 const ROOM: usize = 262_144;
 
 /// The text of the program of `n` functions, 1 to 1,000. It is short enough for a source.
+#[tactic(auto, unfolding(crate::specs::Generated::generated))]
 pub fn program_text(alloc: Global, n: u16) -> Result<Bytes, NoMemory>
     requires most { n ≤ 1000 }
     ensures answer { IfOk result (λ t. t.list ≡ spec.generated n) }
