@@ -26,21 +26,21 @@ pub record TreatAlike (g h : Graph) (c : ℕ) : Type 0 where
   pub writes : (n : ℕ) → may_write g n c ≡ may_write h n c
   pub kills : (n : ℕ) → kills g n c ≡ kills h n c
 
-abbrev back : (g h : Graph) → AreJoinedAlike g h → AreJoinedAlike h g
+abbrev pub back : (g h : Graph) → AreJoinedAlike g h → AreJoinedAlike h g
 back g h a = record { count = sym a.count; next = λ n. sym (a.next n); marked = λ n. sym (a.marked n) }
 
-abbrev back_at : (g h : Graph) (c : ℕ) → TreatAlike g h c → TreatAlike h g c
+abbrev pub back_at : (g h : Graph) (c : ℕ) → TreatAlike g h c → TreatAlike h g c
 back_at g h c t = record { reads = λ n. sym (t.reads n); writes = λ n. sym (t.writes n); kills = λ n. sym (t.kills n) }
 
 module _ (g h : Graph) (a : AreJoinedAlike g h) where
   edge : (n m : ℕ) → has_edge g n m ≡ has_edge h n m
   edge n m = ap (λ (to : Option ℕ × Option ℕ). is_at to.0 m || is_at to.1 m) (a.next n)
 
-  walk : (n : ℕ) (w : List ℕ) → IsWalkFrom g n w → IsWalkFrom h n w
+  pub walk : (n : ℕ) (w : List ℕ) → IsWalkFrom g n w → IsWalkFrom h n w
   walk n [] p = subst (λ (k : ℕ). n < k) a.count p
   walk n (m ∷ w) p = (sym (edge n m) ∙ p.0, walk m w p.1)
 
-  free : (w : List ℕ) → NoExclude g w → NoExclude h w
+  pub free : (w : List ℕ) → NoExclude g w → NoExclude h w
   free [] p = tt
   free (n ∷ w) p = (ap mark_is_exclude (sym (a.marked n)) ∙ p.0, free w p.1)
 
@@ -64,10 +64,10 @@ module _ (g h : Graph) (a : AreJoinedAlike g h) where
 forgettable : (g h : Graph) (c n : ℕ) → AreJoinedAlike g h → TreatAlike g h c → IsForgettable g c n → IsForgettable h c n
 forgettable g h c n a t f m w p reads = f m w (walk h g (back g h a) n (m ∷ w) p) (unkilled h g (back g h a) c (back_at g h c t) m w reads)
 
-dead : (g h : Graph) (k c : ℕ) → AreJoinedAlike g h → TreatAlike g h c → IsDead g k c → IsDead h k c
+pub dead : (g h : Graph) (k c : ℕ) → AreJoinedAlike g h → TreatAlike g h c → IsDead g k c → IsDead h k c
 dead g h k c a t d n m w l = forgettable g h c (last_of m w) a t (d n m w (leads h g (back g h a) k n m w l))
 
-read_only : (g h : Graph) (k c : ℕ) → AreJoinedAlike g h → TreatAlike g h c → IsReadOnly g k c → IsReadOnly h k c
+pub read_only : (g h : Graph) (k c : ℕ) → AreJoinedAlike g h → TreatAlike g h c → IsReadOnly g k c → IsReadOnly h k c
 read_only g h k c a t r = (λ d. r.0 (dead h g k c (back g h a) (back_at g h c t) d), λ n m w l before. r.1 n m w (leads h g (back g h a) k n m w l) (writes_before h g (back g h a) c (back_at g h c t) m w before))
 
 -- ---- the sets

@@ -8,7 +8,7 @@ use Rattle.ckpt_base.specs.declared.ending.Ending.{Ending}
 use Rattle.c_tree.specs.declared.resolved.Resolved.{Resolved}
 use Rattle.c_tree.specs.Meaning.{meaning}
 use Rattle.command_words.specs.declared.command.Command.{Command}
-use Rattle.command_words.specs.declared.command.Command.TheVariants.{Plain, Check, Compile, Report, Run, Restart, Images, Coalesce, Clear}
+use Rattle.command_words.specs.declared.command.Command.TheVariants.{Plain, Check, Compile, Report, Run, Restart, Images, Coalesce, Clear, Why}
 use Rattle.ckpt_program.specs.declared.done.Counts.{Counts}
 use Rattle.ckpt_program.specs.declared.done.Done.{Done}
 use Rattle.ckpt_program.specs.declared.done.Done.TheVariants as done
@@ -21,13 +21,15 @@ use Rattle.ckpt_program.specs.Sight.{sight}
 use Rattle.ckpt_program.specs.Stage.{Comes}
 use Rattle.ckpt_program.specs.Listed.{IsListing}
 use Rattle.ckpt_program.specs.Report.{IsReport}
-use Rattle.ckpt_program.specs.Rows.{IsCounted, Counted, Evaluated, Printed}
+use Rattle.ckpt_program.specs.Why.{HasBoth, LacksOne, LookedUp, IsReasonText}
+use Rattle.ckpt_program.specs.Rows.{IsCounted, Counted, Evaluated, Printed, Explained}
+use Rattle.ckpt_program.specs.Rows as row
 use Rattle.ckpt_program.specs.Carries.{word_at, NoCommand, CarriesSome}
 use Rattle.ckpt_program.specs.Texts.{usage_line, counts_line, run_text, ending_status, done_text, done_status, text_of, status_of}
 use Rattle.ckpt_program.specs.Told.{Tells}
 use Rattle.ckpt_program.specs.LifeStages.{to_begin, to_go_on}
-use Rattle.ckpt_program.specs.Top.{Says, Complete}
-use Rattle.ckpt_program.proofs.ShelfReady.{IsCarriedOut, with_source, with_both}
+use Rattle.ckpt_program.specs.Top.{HasProgram, Says, SaysWhy, Complete}
+use Rattle.ckpt_program.proofs.ShelfReady.{IsCarriedOut, with_source, with_both, source_found, source_not_failing}
 use Rattle.ckpt_program.specs.Upkeep.{TellsCleared}
 use Rattle.ckpt_program.proofs.Ordering.{TellsOf, with_joining, joining_said, with_clearing, clearing_said}
 use Rattle.ckpt_program.proofs.StoreReady.{Accepts, TellsChain, with_store, with_life, begun_said, gone_on_said}
@@ -72,6 +74,20 @@ run_said tree input until (done.Printed t) is = absurd is
 run_said tree input until (done.Told t) is = absurd is
 run_said tree input until (done.Noted t) is = absurd is
 
+explained_said : (p : Resolved) (n c : ℕ) (k l : SinkView) (result : ℕ) (o : Result Done Stop) → (l.written ≡ k.written ++ text_of o) × (result ≡ status_of o) → Comes (Explained p n c) o → (result ≡ 12) ⊎ ((text : List ℕ) × (l.written ≡ k.written ++ text) × SaysWhy p n c result text)
+explained_said p n c k l result (Ok d) whole came =
+    let said = text_said (IsReasonText p n c) d came.2 in
+    inr (done_text d, whole.0, inl (came.1, whole.1 ∙ said.0, said.1))
+explained_said p n c k l result (Err NoMemory) whole came = inl whole.1
+explained_said p n c k l result (Err (Because e)) whole came = ⊎_elim (λ lacks. inr (text_of (Err (Because e)), whole.0, inr (e, lacks, whole.1, refl))) (λ both. absurd both.2) came
+
+-- a source was read
+explained_source : (source : List ℕ) (n c : ℕ) (v w : ShelfView) (tree : Resolved) (o : Result Done Stop) → IsTrue v.tells → (Rose v.faults w.faults → ⊥) → HasProgram source v tree → Comes (row.Why source n c (sight v) (sight w)) o → Comes (Explained tree n c) o
+explained_source source n c v w tree (Ok d) tells calm has came = subst (λ t. Explained t n c (Ok d)) (source_found source v came.0 tree tells has came.1) came.2
+explained_source source n c v w tree (Err NoMemory) tells calm has came = tt
+explained_source source n c v w tree (Err (Because e)) tells calm has came =
+    ⊎_elim (λ fails. absurd (source_not_failing source v w e tree tells calm has fails)) (λ found. subst (λ t. Explained t n c (Err e)) (source_found source v found.0 tree tells has found.1) found.2) came
+
 -- ---- the clause
 
 no_command : (k l : SinkView) (result : ℕ) (o : Result Done Stop) → Comes NoCommand o → (l.written ≡ k.written ++ text_of o) × (result ≡ status_of o) → (result ≡ 12) ⊎ ((text : List ℕ) × (l.written ≡ k.written ++ text) × ((result ≡ 1) × (text ≡ usage_line)))
@@ -109,3 +125,6 @@ complete law words (Some (Coalesce dir)) v w disk disk_new k l result o stays ca
 complete law words (Some (Clear dir)) v w disk disk_new k l result o stays came told = λ job ready well.
     told_well (Says (Some (Clear dir)) job disk) TellsCleared o k l result (whole_text o k l result told well.console_tells well.console_count) clearing_said
     (with_clearing (plate disk) (plate disk_new) o ready came)
+complete law words (Some (Why source exclude cell)) v w disk disk_new k l result o stays came told = λ job ready well.
+    explained_said job.tree exclude cell k l result o (whole_text o k l result told well.console_tells well.console_count)
+    (explained_source (word_at words source) exclude cell v w job.tree o well.shelf_tells well.shelf_count ready came)

@@ -55,6 +55,8 @@ blamed_disk (Err (Because (cause.Occupied image step))) old new result calm told
 blamed_disk (Err (Because (cause.OtherSource kept given))) old new result calm told = λ rose below. absurd (not_risen old new calm rose below)
 blamed_disk (Err (Because (cause.OtherInput kept given))) old new result calm told = λ rose below. absurd (not_risen old new calm rose below)
 blamed_disk (Err (Because (cause.Behind bound step))) old new result calm told = λ rose below. absurd (not_risen old new calm rose below)
+blamed_disk (Err (Because (cause.NotAnExclude k))) old new result calm told = λ rose below. absurd (not_risen old new calm rose below)
+blamed_disk (Err (Because (cause.NotACell c))) old new result calm told = λ rose below. absurd (not_risen old new calm rose below)
 
 -- ---- calls that do not use the disk, or the shelf
 
@@ -71,6 +73,8 @@ calm_disk_still (Err (Because (cause.Occupied image step))) n = refl
 calm_disk_still (Err (Because (cause.OtherSource kept given))) n = refl
 calm_disk_still (Err (Because (cause.OtherInput kept given))) n = refl
 calm_disk_still (Err (Because (cause.Behind bound step))) n = refl
+calm_disk_still (Err (Because (cause.NotAnExclude k))) n = refl
+calm_disk_still (Err (Because (cause.NotACell c))) n = refl
 
 pub calm_still : {A : Type 0} (r : Result A Stop) (s : Sight) → Calm r s s
 calm_still (Ok x) s = refl
@@ -85,6 +89,8 @@ calm_still (Err (Because (cause.Occupied image step))) s = refl
 calm_still (Err (Because (cause.OtherSource kept given))) s = refl
 calm_still (Err (Because (cause.OtherInput kept given))) s = refl
 calm_still (Err (Because (cause.Behind bound step))) s = refl
+calm_still (Err (Because (cause.NotAnExclude k))) s = refl
+calm_still (Err (Because (cause.NotACell c))) s = refl
 
 later_from : (u v : Sight) → v ≡ u → Later u v
 later_from u v is = subst (λ (w : Sight). Later u w) (sym is) (record { tells = refl; files = refl; faults = omega arith })
@@ -102,3 +108,5 @@ calm_later (Err (Because (cause.Occupied image step))) u v calm = later_from u v
 calm_later (Err (Because (cause.OtherSource kept given))) u v calm = later_from u v calm
 calm_later (Err (Because (cause.OtherInput kept given))) u v calm = later_from u v calm
 calm_later (Err (Because (cause.Behind bound step))) u v calm = later_from u v calm
+calm_later (Err (Because (cause.NotAnExclude k))) u v calm = later_from u v calm
+calm_later (Err (Because (cause.NotACell c))) u v calm = later_from u v calm

@@ -4,7 +4,7 @@ use Rattle.ckpt_base.specs.Sink.{SinkView}
 use Rattle.ckpt_base.specs.declared.ending.Ending.{Ending}
 use Rattle.ckpt_base.specs.declared.ending.Ending.TheVariants as ending
 use Rattle.command_words.specs.declared.command.Command.{Command}
-use Rattle.command_words.specs.declared.command.Command.TheVariants.{Plain, Check, Compile, Report, Run, Restart, Images, Coalesce, Clear}
+use Rattle.command_words.specs.declared.command.Command.TheVariants.{Plain, Check, Compile, Report, Run, Restart, Images, Coalesce, Clear, Why}
 use Rattle.disk_model.specs.Store.{Store}
 use Rattle.disk_model.specs.View.{View}
 use Rattle.disk_model.specs.Plate.{Plate, plate}
@@ -81,6 +81,8 @@ lasts_stopped (Because (cause.Occupied image step)) v w result keeps fixed not =
 lasts_stopped (Because (cause.OtherSource kept given)) v w result keeps fixed not = keeps.changes
 lasts_stopped (Because (cause.OtherInput kept given)) v w result keeps fixed not = keeps.changes
 lasts_stopped (Because (cause.Behind bound step)) v w result keeps fixed not = keeps.changes
+lasts_stopped (Because (cause.NotAnExclude n)) v w result keeps fixed not = keeps.changes
+lasts_stopped (Because (cause.NotACell n)) v w result keeps fixed not = keeps.changes
 
 lasts_lived : (source input : List ℕ) (a : Asked) (old new : Sight) (v w : View) (o : Result Done Stop) (result : ℕ) → Comes (Lives source input a old new (plate v) (plate w)) o → KeepsRefused o v w
     → (HasFixedLine o → result ≡ status_of o) → (HasTextAtHand o → IsDone result) → ((IsDone result ⊎ (result ≡ 5)) → ⊥) → OnlyLasting v w
@@ -109,6 +111,7 @@ lasts_refused words (Some (Report source)) old new v w o result came keeps stays
 lasts_refused words (Some (Images dir)) old new v w o result came keeps stays fixed at_hand not = stays_lasting v w (stays tt)
 lasts_refused words (Some (Coalesce dir)) old new v w o result came keeps stays fixed at_hand not = lasts_ordered o v w result (joining_at_hand (plate v) (plate w) o came) keeps fixed at_hand not
 lasts_refused words (Some (Clear dir)) old new v w o result came keeps stays fixed at_hand not = lasts_ordered o v w result (clearing_at_hand (plate v) (plate w) o came) keeps fixed at_hand not
+lasts_refused words (Some (Why source exclude cell)) old new v w o result came keeps stays fixed at_hand not = stays_lasting v w (stays tt)
 lasts_refused words (Some (Run source input dir settings)) old new v w o result came keeps stays fixed at_hand not =
     lasts_lived (word_at words source) (word_at words input) (to_begin settings) old new v w o result came keeps fixed at_hand not
 lasts_refused words (Some (Restart source input dir settings fill)) old new v w o result came keeps stays fixed at_hand not =
@@ -129,6 +132,8 @@ not_ending (Because (cause.Occupied image step)) is = ⊎_elim (λ h. omega (ari
 not_ending (Because (cause.OtherSource kept given)) is = ⊎_elim (λ h. omega (arith, h)) (λ more. ⊎_elim (λ h. omega (arith, h)) (λ h. omega (arith, h)) more) is
 not_ending (Because (cause.OtherInput kept given)) is = ⊎_elim (λ h. omega (arith, h)) (λ more. ⊎_elim (λ h. omega (arith, h)) (λ h. omega (arith, h)) more) is
 not_ending (Because (cause.Behind bound step)) is = ⊎_elim (λ h. omega (arith, h)) (λ more. ⊎_elim (λ h. omega (arith, h)) (λ h. omega (arith, h)) more) is
+not_ending (Because (cause.NotAnExclude n)) is = ⊎_elim (λ h. omega (arith, h)) (λ more. ⊎_elim (λ h. omega (arith, h)) (λ h. omega (arith, h)) more) is
+not_ending (Because (cause.NotACell n)) is = ⊎_elim (λ h. omega (arith, h)) (λ more. ⊎_elim (λ h. omega (arith, h)) (λ h. omega (arith, h)) more) is
 
 stopped_status : (e : Stop) (k l : SinkView) (result : ℕ) → Tells (Err e) k l result → result ≡ status_of (Err e)
 stopped_status e k l result tells = ⊎_elim (λ all. all.status_is) (λ part. part.status_is) tells
@@ -172,6 +177,7 @@ ends_as_source words (Some (Report source)) shelf v w o k l result came tells = 
 ends_as_source words (Some (Images dir)) shelf v w o k l result came tells = tt
 ends_as_source words (Some (Coalesce dir)) shelf v w o k l result came tells = tt
 ends_as_source words (Some (Clear dir)) shelf v w o k l result came tells = tt
+ends_as_source words (Some (Why source exclude cell)) shelf v w o k l result came tells = tt
 
 -- nothing was told of a life for want of memory
 pub none_told : (words : List (List ℕ)) (c : Option Command) (shelf : Sight) (v w : View) (e : Stop) → ToldBy words c shelf v (Err e) w
@@ -185,6 +191,7 @@ none_told words (Some (Report source)) shelf v w e = tt
 none_told words (Some (Images dir)) shelf v w e = tt
 none_told words (Some (Coalesce dir)) shelf v w e = tt
 none_told words (Some (Clear dir)) shelf v w e = tt
+none_told words (Some (Why source exclude cell)) shelf v w e = tt
 
 pub output_lasting : (c : Option Command) (w : View) (o : Result Done Stop) (k l : SinkView) (result : ℕ) → (IsLife c → OnOk o (OutputLasts w)) → Tells o k l result → LastsOutput c result w
 output_lasting c w (Ok d) k l result lasts tells = λ lives ending. lasts lives
@@ -211,6 +218,7 @@ in_order words (Some (Plain source input until)) shelf v w o k l result came tel
 in_order words (Some (Check source)) shelf v w o k l result came tells = tt
 in_order words (Some (Compile source)) shelf v w o k l result came tells = tt
 in_order words (Some (Report source)) shelf v w o k l result came tells = tt
+in_order words (Some (Why source exclude cell)) shelf v w o k l result came tells = tt
 in_order words (Some (Images dir)) shelf v w o k l result came tells = tt
 in_order words (Some (Run source input dir settings)) shelf v w o k l result came tells = tt
 in_order words (Some (Restart source input dir settings fill)) shelf v w o k l result came tells = tt

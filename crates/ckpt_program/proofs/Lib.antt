@@ -2,6 +2,7 @@ mod Choices
 mod Prefix
 mod RunTexts
 mod AlikeGraphs
+mod AlikeReasons
 mod MainGraphs
 mod Fitted
 mod Joining

@@ -105,6 +105,8 @@ kept_still (Because (cause.Occupied image step)) v w same = same
 kept_still (Because (cause.OtherSource kept given)) v w same = same
 kept_still (Because (cause.OtherInput kept given)) v w same = same
 kept_still (Because (cause.Behind bound step)) v w same = same
+kept_still (Because (cause.NotAnExclude n)) v w same = same
+kept_still (Because (cause.NotACell n)) v w same = same
 
 changes_still : {A : Type 0} (r : Result A Stop) (v w : View) → OnlyLasting v w → ChangesIfLived r v w
 changes_still (Ok x) v w same = tt
@@ -143,6 +145,8 @@ kept_after (Because (cause.Occupied image step)) u v w first second = lasting_tw
 kept_after (Because (cause.OtherSource kept given)) u v w first second = lasting_twice u v w first second
 kept_after (Because (cause.OtherInput kept given)) u v w first second = lasting_twice u v w first second
 kept_after (Because (cause.Behind bound step)) u v w first second = lasting_twice u v w first second
+kept_after (Because (cause.NotAnExclude n)) u v w first second = lasting_twice u v w first second
+kept_after (Because (cause.NotACell n)) u v w first second = lasting_twice u v w first second
 
 -- .. and then a life was lived in it
 pub keeps_done : {A : Type 0} (u v w : View) (l : A) (d : Done) → Stays u v → KeepsRefused {A = A} (Ok l) v w → KeepsRefused {A = Done} (Ok d) u w

@@ -1,5 +1,5 @@
 -- The graphs of `main` of one program do the same.
-use Rattle.std.proofs.Common.{◌≡◌, ◌<◌, ℕ, List, [], length, Option, Some, None, Result, Ok, Err, IfOk, sym, ap, ◌∙◌, subst, inl, inr, arith}
+use Rattle.std.proofs.Common.{◌≡◌, ◌<◌, ◌≤◌, ℕ, List, [], length, Option, Some, None, Result, Ok, Err, IfOk, sym, ap, ◌∙◌, subst, inl, inr, arith}
 use Rattle.std.specs.Prelude.{slice_get}
 use Rattle.std.specs.Option.{option_map_or}
 use Rattle.std.proofs.lemmas.Option.{slice_get_cases, slice_get_past, slice_get_within}
@@ -19,8 +19,12 @@ use Rattle.c_tree.specs.Excludes.{excludes}
 use Rattle.c_tree.specs.Checked.{IsChecked}
 use Rattle.flow_graph.proofs.Joins.{graph_is_joined}
 use Rattle.exclusion_equations.specs.Excluded.{Sets, AreExact}
+use Rattle.exclusion_reason.specs.Reasons.{IsReason}
+use Rattle.exclusion_reason.specs.declared.reason.Reason.{Reason}
 use Rattle.ckpt_program.specs.Report.{directives_text, IsReport}
-use Rattle.ckpt_program.proofs.AlikeGraphs.{counted_alike, exact_alike}
+use Rattle.ckpt_program.specs.Why.{HasBoth, IsReasonIn}
+use Rattle.ckpt_program.proofs.AlikeGraphs.{AreJoinedAlike, TreatAlike, counted_alike, exact_alike}
+use Rattle.ckpt_program.proofs.AlikeReasons.{reason_alike}
 
 -- what two graphs have at a node
 record SameNode (p : Resolved) (g h : Graph) (n : ℕ) : Type 0 where
@@ -65,14 +69,17 @@ same_node p g h a b n = elim (slice_get_cases (main_of p).works n).1 [
   | inr none ↦ past p g h n (slice_get_past g.nodes n (omega (arith, none.0, a.count))) (slice_get_past h.nodes n (omega (arith, none.0, b.count)))
 ]
 
+joined_alike : (p : Resolved) (g h : Graph) → IsMainGraph p g → IsMainGraph p h → AreJoinedAlike g h
+joined_alike p g h a b = record { count = a.count ∙ sym b.count; next = λ n. (same_node p g h a b n).next; marked = λ n. (same_node p g h a b n).marked }
+
+treat_alike : (p : Resolved) (g h : Graph) (c : ℕ) → IsMainGraph p g → IsMainGraph p h → c < cell_count p → TreatAlike g h c
+treat_alike p g h c a b small = record { reads = λ n. (same_node p g h a b n).reads c small; writes = λ n. (same_node p g h a b n).writes c small; kills = λ n. (same_node p g h a b n).kills' c small }
+
 -- sets that are exact for one graph of `main` are so for each
 pub exact_for_each : (p : Resolved) (g h : Graph) (s : Sets) → IsMainGraph p g → IsMainGraph p h → AreExact g s → AreExact h s
 exact_for_each p g h s a b e =
-    exact_alike g h s (a.cells ∙ sym b.cells)
-    (record { count = a.count ∙ sym b.count; next = λ n. (same_node p g h a b n).next; marked = λ n. (same_node p g h a b n).marked })
-    (λ c below.
-    let small : c < cell_count p = subst (λ (k : ℕ). c < k) a.cells below in
-    record { reads = λ n. (same_node p g h a b n).reads c small; writes = λ n. (same_node p g h a b n).writes c small; kills = λ n. (same_node p g h a b n).kills' c small })
+    exact_alike g h s (a.cells ∙ sym b.cells) (joined_alike p g h a b)
+    (λ c below. treat_alike p g h c a b (subst (λ (k : ℕ). c < k) a.cells below))
     e
 
 -- the EXCLUDE_HERE of the graph of `main` are those of its text
@@ -100,3 +107,13 @@ reported p g s text count a e is told = record {
 pub report_made : {E : Type 0} (p : Resolved) (g : Graph) (s : Sets) (count : ℕ) (r : Result (List ℕ) E) → IsMainGraph p g → AreExact g s → count ≡ exclude_count g → IfOk r (λ t. t ≡ directives_text p s count) → IfOk r (λ t. IsReport p t)
 report_made p g s count (Ok text) a e is told = reported p g s text count a e is told
 report_made p g s count (Err f) a e is told = tt
+
+-- ---- reasons
+
+-- an EXCLUDE_HERE and a cell that the program has, its graph has too
+pub exclude_there : (p : Resolved) (g : Graph) (k c : ℕ) → IsMainGraph p g → HasBoth p k c → k ≤ exclude_count g
+exclude_there p g k c a both = let low = both.exclude in omega (arith, low, excludes_of_main p g a)
+
+pub reason_made : {E : Type 0} (p : Resolved) (g : Graph) (k c : ℕ) (r : Result Reason E) → IsMainGraph p g → HasBoth p k c → IfOk r (λ x. IsReason g k c x) → IfOk r (λ x. IsReasonIn p k c x)
+reason_made p g k c (Ok x) a both is = record { graph = g; of_main = a; is = λ h b. reason_alike g h k c x (joined_alike p g h a b) (treat_alike p g h c a b both.cell) is }
+reason_made p g k c (Err f) a both is = tt

@@ -52,6 +52,8 @@ file_not_failing d name v w (cause.Occupied image step) bytes tells calm has fai
 file_not_failing d name v w (cause.OtherSource kept given) bytes tells calm has fails = absurd fails
 file_not_failing d name v w (cause.OtherInput kept given) bytes tells calm has fails = absurd fails
 file_not_failing d name v w (cause.Behind bound step) bytes tells calm has fails = absurd fails
+file_not_failing d name v w (cause.NotAnExclude n) bytes tells calm has fails = absurd fails
+file_not_failing d name v w (cause.NotACell n) bytes tells calm has fails = absurd fails
 
 -- ---- sources
 

@@ -61,6 +61,8 @@ entry_not_failing disk disk_new (cause.Occupied image step) count fails = absurd
 entry_not_failing disk disk_new (cause.OtherSource kept given) count fails = absurd fails
 entry_not_failing disk disk_new (cause.OtherInput kept given) count fails = absurd fails
 entry_not_failing disk disk_new (cause.Behind bound step) count fails = absurd fails
+entry_not_failing disk disk_new (cause.NotAnExclude n) count fails = absurd fails
+entry_not_failing disk disk_new (cause.NotACell n) count fails = absurd fails
 
 -- ---- the records of a store
 
@@ -76,6 +78,8 @@ listing_not_failing disk disk_new chain (cause.Occupied image step) has fails = 
 listing_not_failing disk disk_new chain (cause.OtherSource kept given) has fails = absurd fails
 listing_not_failing disk disk_new chain (cause.OtherInput kept given) has fails = absurd fails
 listing_not_failing disk disk_new chain (cause.Behind bound step) has fails = absurd fails
+listing_not_failing disk disk_new chain (cause.NotAnExclude n) has fails = absurd fails
+listing_not_failing disk disk_new chain (cause.NotACell n) has fails = absurd fails
 
 -- it tells the records of the chain
 abbrev pub TellsChain : Option Found → Done → Type 0
@@ -179,6 +183,8 @@ begun_stop disk settings (cause.TooLarge d) stops = absurd stops
 begun_stop disk settings (cause.Damaged file place) stops = absurd stops
 begun_stop disk settings (cause.OtherSource kept given) stops = absurd stops
 begun_stop disk settings (cause.OtherInput kept given) stops = absurd stops
+begun_stop disk settings (cause.NotAnExclude n) stops = absurd stops
+begun_stop disk settings (cause.NotACell n) stops = absurd stops
 
 pub begun_said : (disk : View) (settings : Settings) (k l : SinkView) (result : ℕ) (o : Result Done Stop) → (l.written ≡ k.written ++ text_of o) × (result ≡ status_of o) → IsLived (to_begin settings) disk.seen o
     → (result ≡ 12) ⊎ ((text : List ℕ) × (l.written ≡ k.written ++ text) × (IsEnding result ⊎ ((result ≡ 10) × TellsOccupied disk.seen text)))
@@ -197,6 +203,8 @@ gone_on_stop disk settings fill (cause.TooLarge d) ahead stops = absurd stops
 gone_on_stop disk settings fill (cause.Damaged file place) ahead stops = absurd stops
 gone_on_stop disk settings fill (cause.OtherSource kept given) ahead stops = absurd stops
 gone_on_stop disk settings fill (cause.OtherInput kept given) ahead stops = absurd stops
+gone_on_stop disk settings fill (cause.NotAnExclude n) ahead stops = absurd stops
+gone_on_stop disk settings fill (cause.NotACell n) ahead stops = absurd stops
 
 pub gone_on_said : (disk : View) (settings : Settings) (fill : ℕ) (k l : SinkView) (result : ℕ) (o : Result Done Stop) → IsAhead settings.until disk.seen → (l.written ≡ k.written ++ text_of o) × (result ≡ status_of o) → IsLived (to_go_on settings fill) disk.seen o
     → (result ≡ 12) ⊎ ((text : List ℕ) × (l.written ≡ k.written ++ text) × IsEnding result)

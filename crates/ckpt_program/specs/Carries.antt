@@ -1,7 +1,7 @@
 -- What the words come to: a row each.
 use Rattle.std.specs.Prelude.{◌≡◌, ℕ, List, [], Option, Some, None, Ok, Err, slice_index_or}
 use Rattle.command_words.specs.declared.command.Command.{Command}
-use Rattle.command_words.specs.declared.command.Command.TheVariants.{Plain, Check, Compile, Report, Run, Restart, Images, Coalesce, Clear}
+use Rattle.command_words.specs.declared.command.Command.TheVariants.{Plain, Check, Compile, Report, Run, Restart, Images, Coalesce, Clear, Why}
 use Rattle.disk_model.specs.Plate.{Plate}
 use Rattle.ckpt_program.specs.Sight.{Sight}
 use Rattle.ckpt_program.specs.Stage.{Stage}
@@ -30,6 +30,7 @@ Carries words (Restart source input dir settings fill) old new disk disk_new = l
 Carries words (Images dir) old new disk disk_new = row.Images disk disk_new
 Carries words (Coalesce dir) old new disk disk_new = row.Coalesce disk disk_new
 Carries words (Clear dir) old new disk disk_new = row.Clear disk disk_new
+Carries words (Why source exclude cell) old new disk disk_new = row.Why (word_at words source) exclude cell old new
 
 abbrev pub CarriesSome : (words : List (List ℕ)) → Option Command → (old new : Sight) (disk disk_new : Plate) → Stage Done
 CarriesSome words None old new disk disk_new = NoCommand

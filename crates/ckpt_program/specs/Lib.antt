@@ -20,6 +20,8 @@ pub mod Upkeep
 pub mod Listed
 -- what `report` prints
 pub mod Report
+-- what `why` prints
+pub mod Why
 -- what each command comes to
 pub mod Rows
 -- what the commands that live come to

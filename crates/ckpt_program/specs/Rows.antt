@@ -14,6 +14,7 @@ use Rattle.ckpt_program.specs.DiskStages.{Entered, Listed}
 use Rattle.ckpt_program.specs.Upkeep.{ClearedIn, JoinedIn, TellsCleared, TellsJoined}
 use Rattle.ckpt_program.specs.Listed.{IsListing}
 use Rattle.ckpt_program.specs.Report.{IsReport}
+use Rattle.ckpt_program.specs.Why.{LookedUp, IsReasonText}
 use Rattle.ckpt_program.specs.declared.done.Counts.{Counts}
 use Rattle.ckpt_program.specs.declared.done.Done.{Done}
 use Rattle.ckpt_program.specs.declared.done.Done.TheVariants as done
@@ -58,6 +59,18 @@ abbrev pub Report : (source : List ℕ) (old new : Sight) → Stage Done
 Report source old new = do
   tree ← Source source old new
   only (Printed (IsReport tree))
+
+-- why cell c of a program is kept under its EXCLUDE_HERE k
+abbrev pub Explained : Resolved → (k c : ℕ) → Stage Done
+Explained tree k c = do
+  both ← LookedUp tree k c
+  only (Printed (IsReasonText tree k c))
+
+-- `why SRC K CELL`
+abbrev pub Why : (source : List ℕ) (k c : ℕ) (old new : Sight) → Stage Done
+Why source k c old new = do
+  tree ← Source source old new
+  Explained tree k c
 
 -- a program is evaluated on an input
 abbrev pub OnInput : Resolved → (input : List ℕ) (until : ℕ) (old new : Sight) → Stage Done

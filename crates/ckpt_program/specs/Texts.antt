@@ -77,7 +77,7 @@ abbrev pub occupied_line : (image step : ℕ) → List ℕ
 occupied_line image step = codes "occupied: image " ++ (decimal image ++ (codes " step " ++ (decimal step ++ codes "\n")))
 
 abbrev pub usage_line : List ℕ
-usage_line = codes "usage: ckpt plain|check|compile|report|run|restart|images|coalesce|clear|drill|generate\n"
+usage_line = codes "usage: ckpt plain|check|compile|report|run|restart|images|coalesce|clear|drill|generate|why\n"
 
 -- digests that differ: the one that the newest image has, and the one that was given
 abbrev pub other_line : (what : List ℕ) (kept given : List ℕ) → List ℕ
@@ -85,6 +85,12 @@ other_line what kept given = codes "other " ++ (what ++ (codes " kept " ++ (enco
 
 abbrev pub behind_line : (bound step : ℕ) → List ℕ
 behind_line bound step = codes "bound " ++ (decimal bound ++ (codes " below step " ++ (decimal step ++ codes "\n")))
+
+abbrev pub no_exclude_line : ℕ → List ℕ
+no_exclude_line k = codes "no exclude " ++ (decimal k ++ codes "\n")
+
+abbrev pub no_cell_line : ℕ → List ℕ
+no_cell_line c = codes "no cell " ++ (decimal c ++ codes "\n")
 
 -- the line of a cause that is always the same
 abbrev pub fixed_line : Cause → Option (List ℕ)
@@ -103,6 +109,8 @@ made_line (cause.Occupied image step) = occupied_line image step
 made_line (cause.OtherSource kept given) = other_line (codes "source") kept given
 made_line (cause.OtherInput kept given) = other_line (codes "input") kept given
 made_line (cause.Behind bound step) = behind_line bound step
+made_line (cause.NotAnExclude k) = no_exclude_line k
+made_line (cause.NotACell c) = no_cell_line c
 made_line c = []
 
 abbrev pub cause_text : Cause → List ℕ
@@ -119,6 +127,8 @@ cause_status (cause.OtherInput kept given) = 9
 cause_status (cause.Occupied image step) = 10
 cause_status (cause.TooLarge d) = 11
 cause_status (cause.Behind bound step) = 13
+cause_status (cause.NotAnExclude k) = 14
+cause_status (cause.NotACell c) = 14
 
 -- ---- what a command has come to
 

@@ -8,7 +8,7 @@ use Rattle.c_tree.specs.declared.resolved.Resolved.{Resolved}
 use Rattle.c_tree.specs.Meaning.{meaning}
 use Rattle.command_words.specs.Words.{command_of}
 use Rattle.command_words.specs.declared.command.Command.{Command}
-use Rattle.command_words.specs.declared.command.Command.TheVariants.{Plain, Check, Compile, Report, Run, Restart, Images, Coalesce, Clear}
+use Rattle.command_words.specs.declared.command.Command.TheVariants.{Plain, Check, Compile, Report, Run, Restart, Images, Coalesce, Clear, Why}
 use Rattle.disk_model.specs.Store.{Store}
 use Rattle.disk_model.specs.View.{View}
 use Rattle.disk_model.specs.Plate.{plate}
@@ -30,14 +30,16 @@ use Rattle.ckpt_program.specs.Accepted.{IsAccepted}
 use Rattle.ckpt_program.specs.Listed.{IsListing}
 use Rattle.ckpt_program.specs.Report.{IsReport}
 use Rattle.ckpt_program.specs.Rows.{IsCounted}
+use Rattle.ckpt_program.specs.Why.{HasBoth, LacksOne, IsReasonText}
 use Rattle.ckpt_program.specs.Carries.{word_at, CarriesSome}
-use Rattle.ckpt_program.specs.Texts.{counts_line, run_text, ending_status, usage_line, occupied_line}
+use Rattle.ckpt_program.specs.Texts.{counts_line, run_text, ending_status, usage_line, occupied_line, cause_text, cause_status}
 use Rattle.ckpt_program.specs.Told.{Tells, IsDone, IsEnding}
 use Rattle.ckpt_program.specs.Upkeep.{FindsRecords, joined_text}
 use Rattle.store_upkeep.specs.declared.coalesced.Coalesced.{Coalesced}
 use Rattle.ckpt_runner.specs.Standing.{KeepsImages}
 use Rattle.ckpt_program.specs.declared.done.Counts.{Counts}
 use Rattle.ckpt_program.specs.declared.done.Done.{Done}
+use Rattle.ckpt_program.specs.declared.stop.Cause.{Cause}
 use Rattle.ckpt_program.specs.declared.stop.Stop.{Stop}
 use Rattle.ckpt_program.specs.declared.stop.Document.{Document}
 use Rattle.ckpt_program.specs.declared.stop.Document.TheVariants as document
@@ -154,10 +156,15 @@ IsReady words (Some (Restart source input dir settings fill)) shelf disk disk_ne
 IsReady words (Some (Images dir)) shelf disk disk_new job = HasChainOf disk disk_new job.chain
 IsReady words (Some (Coalesce dir)) shelf disk disk_new job = HasChainOf disk disk_new job.chain
 IsReady words (Some (Clear dir)) shelf disk disk_new job = Rose disk.faults disk_new.faults → ⊥
+IsReady words (Some (Why source exclude cell)) shelf disk disk_new job = HasProgram (word_at words source) shelf job.tree
 
 -- the store has a chain, and the line tells its newest image
 abbrev pub TellsOccupied : Store → (text : List ℕ) → Type 0
 TellsOccupied c text = (found : Found) × (newest : Fields) × HasChain c found newest × (text ≡ occupied_line newest.number newest.steps)
+
+-- why a cell is kept where the program has it and the EXCLUDE_HERE, and else which of them it has not
+abbrev pub SaysWhy : Resolved → (k c : ℕ) → (status : ℕ) (text : List ℕ) → Type 0
+SaysWhy p k c status text = (HasBoth p k c × (status ≡ 0) × IsReasonText p k c text) ⊎ ((e : Cause) × LacksOne p k c e × (status ≡ cause_status e) × (text ≡ cause_text e))
 
 -- The status and the text that are meant. Those of a life are said by the headline.
 abbrev pub Says : Option Command → Job → (disk : View) → (status : ℕ) (text : List ℕ) → Type 0
@@ -173,6 +180,7 @@ Says (Some (Restart source input dir settings fill)) job disk status text = IsEn
 Says (Some (Images dir)) job disk status text = (status ≡ 0) × (text ≡ chain_text job.chain)
 Says (Some (Coalesce dir)) job disk status text = (status ≡ 0) × (c : Coalesced) × FindsRecords c disk.seen × (text ≡ joined_text c)
 Says (Some (Clear dir)) job disk status text = (status ≡ 0) × (text ≡ codes "cleared\n")
+Says (Some (Why source exclude cell)) job disk status text = SaysWhy job.tree exclude cell status text
 
 -- Where the files and the store are as they should be and no count rose, exactly what is meant is told, or that there is no memory.
 abbrev pub Complete : (words : List (List ℕ)) → Option Command → (shelf shelf_new : ShelfView) (disk disk_new : View) (console console_new : SinkView) → (result : ℕ) → Type 0

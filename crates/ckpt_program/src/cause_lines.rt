@@ -19,6 +19,8 @@ pub fn made_line(alloc: Global, cause: &Cause) -> Result<Vec<u8>, AllocError>
         Cause::OtherSource { kept, given } => other_line(alloc, "source", kept, given),
         Cause::OtherInput { kept, given } => other_line(alloc, "input", kept, given),
         Cause::Behind { bound, step } => behind_line(alloc, *bound, *step),
+        Cause::NotAnExclude(k) => no_exclude_line(alloc, *k),
+        Cause::NotACell(c) => no_cell_line(alloc, *c),
         _ => Ok(Vec::new(alloc)),
     }
 }
@@ -70,5 +72,21 @@ fn behind_line(alloc: Global, bound: u64, step: u64) -> Result<Vec<u8>, AllocErr
     ensures answer { IfOk result (λ t. t.items ≡ spec.behind_line bound step) }
 {
     let line = format!(in alloc; "bound {bound} below step {step}\n")?;
+    Vec::from_slice(alloc, line.as_bytes())
+}
+
+// An EXCLUDE_HERE that is not there.
+fn no_exclude_line(alloc: Global, k: u16) -> Result<Vec<u8>, AllocError>
+    ensures answer { IfOk result (λ t. t.items ≡ spec.no_exclude_line k) }
+{
+    let line = format!(in alloc; "no exclude {k}\n")?;
+    Vec::from_slice(alloc, line.as_bytes())
+}
+
+// A cell that is not there.
+fn no_cell_line(alloc: Global, cell: u32) -> Result<Vec<u8>, AllocError>
+    ensures answer { IfOk result (λ t. t.items ≡ spec.no_cell_line cell) }
+{
+    let line = format!(in alloc; "no cell {cell}\n")?;
     Vec::from_slice(alloc, line.as_bytes())
 }

@@ -45,6 +45,10 @@ mod telling;
 mod tests;
 mod top;
 mod upkeep;
+mod why;
+#[cfg(test)]
+mod why_rows;
+mod why_text;
 
 use ckpt_base::{NoMemory, Text};
 use host_edge::{DirDisk, FileShelf, StdSink};

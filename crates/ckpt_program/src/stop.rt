@@ -81,6 +81,10 @@ pub enum Cause {
         /// The steps of the newest image.
         step: u64,
     },
+    /// The program has no EXCLUDE_HERE of this number.
+    NotAnExclude(u16),
+    /// The program has no cell of this number.
+    NotACell(u32),
 }
 
 /// Why a command stops before it is done.
@@ -94,7 +98,7 @@ pub enum Stop {
 
 /// The text of usage.
 const USAGE: &[u8] =
-    b"usage: ckpt plain|check|compile|report|run|restart|images|coalesce|clear|drill|generate\n";
+    b"usage: ckpt plain|check|compile|report|run|restart|images|coalesce|clear|drill|generate|why\n";
 
 impl Cause {
     /// The status with which the program ends.
@@ -111,6 +115,7 @@ impl Cause {
             Cause::Occupied { .. } => 10,
             Cause::TooLarge(_) => 11,
             Cause::Behind { .. } => 13,
+            Cause::NotAnExclude(_) | Cause::NotACell(_) => 14,
         }
     }
 

@@ -253,7 +253,7 @@ pub const RESTARTS: [Store<'static>; 9] = [
             (
                 &["restart", "P", "E0", "D", "--every", "0"],
                 1,
-                b"usage: ckpt plain|check|compile|report|run|restart|images|coalesce|clear|drill|generate\n",
+                b"usage: ckpt plain|check|compile|report|run|restart|images|coalesce|clear|drill|generate|why\n",
             ),
             (
                 &["restart", "P", "E0", "D", "--fill", "255"],
@@ -381,47 +381,47 @@ pub const USAGE: [Store<'static>; 1] = [(
         (
             &["run", "P", "E0", "D", "--pace", "1"],
             1,
-            b"usage: ckpt plain|check|compile|report|run|restart|images|coalesce|clear|drill|generate\n",
+            b"usage: ckpt plain|check|compile|report|run|restart|images|coalesce|clear|drill|generate|why\n",
         ),
         (
             &["run", "P", "E0", "D", "--max", "1"],
             1,
-            b"usage: ckpt plain|check|compile|report|run|restart|images|coalesce|clear|drill|generate\n",
+            b"usage: ckpt plain|check|compile|report|run|restart|images|coalesce|clear|drill|generate|why\n",
         ),
         (
             &["run", "P", "E0", "D", "--max", "65"],
             1,
-            b"usage: ckpt plain|check|compile|report|run|restart|images|coalesce|clear|drill|generate\n",
+            b"usage: ckpt plain|check|compile|report|run|restart|images|coalesce|clear|drill|generate|why\n",
         ),
         (
             &["run", "P", "E0", "D", "--every", "0"],
             1,
-            b"usage: ckpt plain|check|compile|report|run|restart|images|coalesce|clear|drill|generate\n",
+            b"usage: ckpt plain|check|compile|report|run|restart|images|coalesce|clear|drill|generate|why\n",
         ),
         (
             &["run", "P", "E0"],
             1,
-            b"usage: ckpt plain|check|compile|report|run|restart|images|coalesce|clear|drill|generate\n",
+            b"usage: ckpt plain|check|compile|report|run|restart|images|coalesce|clear|drill|generate|why\n",
         ),
         (
             &["run", "P", "E0", "D", "--fill", "1"],
             1,
-            b"usage: ckpt plain|check|compile|report|run|restart|images|coalesce|clear|drill|generate\n",
+            b"usage: ckpt plain|check|compile|report|run|restart|images|coalesce|clear|drill|generate|why\n",
         ),
         (
             &["restart", "P", "E0", "D", "--fill", "256"],
             1,
-            b"usage: ckpt plain|check|compile|report|run|restart|images|coalesce|clear|drill|generate\n",
+            b"usage: ckpt plain|check|compile|report|run|restart|images|coalesce|clear|drill|generate|why\n",
         ),
         (
             &["restart", "P", "E0", "D", "E"],
             1,
-            b"usage: ckpt plain|check|compile|report|run|restart|images|coalesce|clear|drill|generate\n",
+            b"usage: ckpt plain|check|compile|report|run|restart|images|coalesce|clear|drill|generate|why\n",
         ),
         (
             &["images"],
             1,
-            b"usage: ckpt plain|check|compile|report|run|restart|images|coalesce|clear|drill|generate\n",
+            b"usage: ckpt plain|check|compile|report|run|restart|images|coalesce|clear|drill|generate|why\n",
         ),
     ],
     b"",

@@ -234,7 +234,7 @@ fn locals_and_depth_have_limits(rt: HostRuntime) -> Result<(), Fail> {
 }
 
 const USAGE: &[u8] =
-    b"usage: ckpt plain|check|compile|report|run|restart|images|coalesce|clear|drill|generate\n";
+    b"usage: ckpt plain|check|compile|report|run|restart|images|coalesce|clear|drill|generate|why\n";
 
 #[test]
 fn other_words_are_usage(rt: HostRuntime) -> Result<(), Fail> {

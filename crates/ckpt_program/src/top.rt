@@ -23,6 +23,7 @@ use crate::report::report;
 use crate::stop::{Cause, Stop};
 use crate::telling::tell;
 use crate::upkeep::{clear, coalesce};
+use crate::why::why;
 use accepted_stores::standing_stores_are_accepted;
 use ckpt_base::{Shelf, Sink, Text};
 use ckpt_runner::Mode;
@@ -33,12 +34,12 @@ use std::alloc::Global;
 /// Does all that the program does: carries out the command that the words are, over the files of the shelf, and tells the
 /// outcome on the console, which is written once, when it is over. Answers the status with which the program ends.
 ///
-/// 0, 3 and 4 come by the ending of the run, and 0 for an accepted source, for its code, its excluded sets and the records of a
-/// store; 1 exactly where the words are no command; 2 exactly where the source is refused; 5 only where the disk failed; 6 only
+/// 0, 3 and 4 come by the ending of the run, and 0 for an accepted source, for its code, its excluded sets, the reason for a cell
+/// and the records of a store; 1 exactly where the words are no command; 2 exactly where the source is refused; 5 only where the disk failed; 6 only
 /// where the shelf failed or lacks a file; 7 only where the console failed while the text of 0, 3 or 4 was written; 8 exactly
 /// where the store is damaged; 9 exactly where `restart` finds an image of another source or input; 10 exactly where `run` finds
 /// a chain; 11 exactly where a file is longer than its limit; 12 where no memory is found; 13 exactly where the bound of
-/// `restart` is below the newest image.
+/// `restart` is below the newest image; 14 exactly where `why` asks for an EXCLUDE_HERE or a cell that an accepted source has not.
 pub fn ckpt<H: Shelf, D: Disk, K: Sink>(
     alloc: Global,
     words: &Vec<Text>,
@@ -163,6 +164,11 @@ fn carry<H: Shelf, D: Disk>(
         Command::Images { dir } => images(alloc, disk, word(words, dir)),
         Command::Coalesce { dir } => coalesce(alloc, disk, word(words, dir)),
         Command::Clear { dir } => clear(alloc, disk, word(words, dir)),
+        Command::Why {
+            source,
+            exclude,
+            cell,
+        } => why(alloc, shelf, word(words, source), exclude, cell),
     }
 }
 

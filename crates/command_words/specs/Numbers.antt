@@ -18,3 +18,11 @@ abbrev pub number : List ℕ → Option ℕ
 number [] = None
 number (b ∷ []) = number_from 0 (b ∷ [])
 number (b ∷ c ∷ bs) = if b == 48 then None else number_from 0 (b ∷ c ∷ bs)
+
+abbrev pub within : (least most : ℕ) → Option ℕ → Option ℕ
+within least most None = None
+within least most (Some n) = if nat_le least n && nat_le n most then Some n else None
+
+-- the same, where it is within the range
+abbrev pub number_in : (least most : ℕ) → List ℕ → Option ℕ
+number_in least most word = within least most (number word)

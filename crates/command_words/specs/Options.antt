@@ -1,6 +1,6 @@
 -- The options of a command: each a name that begins with `--`, and its value.
-use Rattle.std.specs.Prelude.{ℕ, List, [], ◌∷◌, Option, Some, None, Bool, true, false, ◌&&◌, ◌==◌, codes, bytes_eq, is_none, nat_le, if◌then◌else◌}
-use Rattle.command_words.specs.Numbers.{number}
+use Rattle.std.specs.Prelude.{ℕ, List, [], ◌∷◌, Option, Some, None, Bool, true, false, ◌&&◌, ◌==◌, codes, bytes_eq, is_none, if◌then◌else◌}
+use Rattle.command_words.specs.Numbers.{number, within}
 use Rattle.command_words.specs.declared.options.Name.{Name}
 use Rattle.command_words.specs.declared.options.Name.TheVariants.{Until, Every, Max, Pace, Fill}
 
@@ -48,10 +48,6 @@ number_or_default default (Some value) = number value
 -- the number that an option gives, or the default where it is not given
 abbrev pub number_or : Name → (default : ℕ) → List Word → Option ℕ
 number_or name default words = number_or_default default (value_of name words)
-
-abbrev pub within : (least most : ℕ) → Option ℕ → Option ℕ
-within least most None = None
-within least most (Some n) = if nat_le least n && nat_le n most then Some n else None
 
 -- the same, where it is within the range
 abbrev pub number_within : Name → (default least most : ℕ) → List Word → Option ℕ

@@ -1,12 +1,13 @@
--- Which command the words are. The files of a command, and the directory of its store, stand behind its name, and its options behind them.
+-- Which command the words are. The files of a command, the directory of its store, and the numbers that it is asked for stand behind its name, and its options behind them.
 use Rattle.std.specs.Prelude.{ℕ, ◌-◌, ◌^◌, ◌<◌, ◌≤◌, List, [], ◌∷◌, Option, Some, None, option_and_then, ◌||◌, codes, bytes_eq, if◌then◌else◌}
 use Rattle.std.specs.Option.{option_map}
+use Rattle.command_words.specs.Numbers.{number_in}
 use Rattle.command_words.specs.Options.{Word, is_option, are_options, number_or, number_within}
 use Rattle.command_words.specs.declared.options.Name.{Name}
 use Rattle.command_words.specs.declared.options.Name.TheVariants.{Until, Every, Max, Pace, Fill}
 use Rattle.command_words.specs.declared.command.Settings.{Settings}
 use Rattle.command_words.specs.declared.command.Command.{Command}
-use Rattle.command_words.specs.declared.command.Command.TheVariants.{Plain, Check, Compile, Report, Run, Restart, Images, Coalesce, Clear}
+use Rattle.command_words.specs.declared.command.Command.TheVariants.{Plain, Check, Compile, Report, Run, Restart, Images, Coalesce, Clear, Why}
 
 -- the greatest number of steps that can be asked for
 abbrev pub most_steps : ℕ
@@ -43,6 +44,11 @@ restart_of (source ∷ input ∷ dir ∷ options) =
     else option_and_then (λ settings. option_map (Restart 1 2 3 settings) (number_within Fill 0 0 255 options)) (settings_of (Until ∷ Every ∷ Max ∷ Pace ∷ Fill ∷ []) options)
 restart_of _ = None
 
+-- `why SRC K CELL`
+abbrev pub why_of : List Word → Option Command
+why_of (source ∷ exclude ∷ cell ∷ []) = if is_option source then None else option_and_then (λ k. option_map (Why 1 k) (number_in 0 4294967295 cell)) (number_in 1 64 exclude)
+why_of _ = None
+
 -- the command, where the one word behind its name is a file or a directory
 abbrev pub of_one : Command → List Word → Option Command
 of_one command (source ∷ []) = if is_option source then None else Some command
@@ -61,6 +67,7 @@ command_of (name ∷ words) =
     else if bytes_eq name (codes "images") then of_one (Images 1) words
     else if bytes_eq name (codes "coalesce") then of_one (Coalesce 1) words
     else if bytes_eq name (codes "clear") then of_one (Clear 1) words
+    else if bytes_eq name (codes "why") then why_of words
     else None
 
 -- each file of the command is one of so many words
@@ -74,6 +81,7 @@ HasPlaces (Restart source input dir settings fill) n = (source < n) × (input < 
 HasPlaces (Images dir) n = dir < n
 HasPlaces (Coalesce dir) n = dir < n
 HasPlaces (Clear dir) n = dir < n
+HasPlaces (Why source exclude cell) n = source < n
 
 -- the numbers of the settings are in range
 pub record InRange (s : Settings) : Type 0 where
@@ -84,4 +92,5 @@ pub record InRange (s : Settings) : Type 0 where
 abbrev pub HasRanges : Command → Type 0
 HasRanges (Run source input dir settings) = InRange settings
 HasRanges (Restart source input dir settings fill) = InRange settings
+HasRanges (Why source exclude cell) = (1 ≤ exclude) × (exclude ≤ 64)
 HasRanges command = Unit {0}

@@ -58,4 +58,11 @@ pub enum Command {
     Clear {
         dir: usize,
     },
+    /// `why SRC K CELL`: prints why a cell of the source is kept in the images.
+    Why {
+        source: usize,
+        /// The number of the EXCLUDE_HERE, 1 to 64.
+        exclude: u16,
+        cell: u32,
+    },
 }

@@ -1,6 +1,6 @@
 //! Numbers in words.
 
-ghost use Rattle.std.specs.Prelude.{◌≡◌};
+ghost use Rattle.std.specs.Prelude.{◌≡◌, ◌≤◌, IfSome};
 ghost use Rattle.command_words.specs.Numbers as spec;
 
 /// The number that a word spells: decimal digits without a sign, and without a 0 in front of others.
@@ -10,6 +10,19 @@ pub fn number(word: &[u8]) -> Option<u64>
     match word {
         [] | [b'0', _, ..] => None,
         _ => number_of(word),
+    }
+}
+
+/// The same, where it is within the range.
+pub fn number_in(word: &[u8], least: u64, most: u64) -> Option<u64>
+    ensures answer { result ≡ spec.number_in least most word.now }
+    ensures within { IfSome result (λ n. (least ≤ n) × (n ≤ most)) }
+{
+    let number = number(word)?;
+    if least <= number && number <= most {
+        Some(number)
+    } else {
+        None
     }
 }
 

@@ -5,6 +5,7 @@ ghost use Rattle.command_words.specs.Words as spec;
 ghost use Rattle.command_words.specs.Words.{command_of, steps_of, HasPlaces, HasRanges, InRange};
 
 use crate::command::{Command, Settings};
+use crate::numbers::number_in;
 use crate::options::{Name, are_options, is_option, number_or, number_within};
 use ckpt_base::{NoMemory, Text};
 use std::alloc::Global;
@@ -48,6 +49,8 @@ fn command(words: &[Text]) -> Option<Command>
                 of_one(words, Command::Coalesce { dir: 1 })
             } else if name.as_bytes() == b"clear".as_slice() {
                 of_one(words, Command::Clear { dir: 1 })
+            } else if name.as_bytes() == b"why".as_slice() {
+                why(words)
             } else {
                 None
             }
@@ -149,6 +152,26 @@ fn steps(options: &[Text]) -> Option<u64>
 {
     let most = u64::MAX;
     number_or(options, Name::Until, most)
+}
+
+// `why` and the words behind it.
+fn why(words: &[Text]) -> Option<Command>
+    ensures answer { result ≡ spec.why_of words.now }
+    ensures places { IfSome result (λ command. HasPlaces command (length words.now + 1)) }
+    ensures ranges { IfSome result HasRanges }
+{
+    match words {
+        [source, exclude, cell] if !is_option(source) => {
+            let exclude = number_in(exclude.as_bytes(), 1, 64)?;
+            let cell = number_in(cell.as_bytes(), 0, 4_294_967_295)?;
+            Some(Command::Why {
+                source: 1,
+                exclude: exclude as u16,
+                cell: cell as u32,
+            })
+        }
+        _ => None,
+    }
 }
 
 // The command, where the one word behind its name is a file or a directory.

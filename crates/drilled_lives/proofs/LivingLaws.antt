@@ -38,9 +38,6 @@ Opened g a u v = IsTrue u.tells → (o : Origin) × Opens g u.seen a.started o �
 pub fits_opened : (g : Given) (a : LifeView) (u v : View) → v.tells ≡ u.tells → Opened g a u v → FitsDisk a v
 fits_opened g a u v same opens told = let x = opens (subst IsTrue same told) in (x.0, [], x.2, x.3)
 
-pub has_opened : (g : Given) (a : LifeView) (u v : View) → Opened g a u v → IsTrue u.tells → (o : Origin) × Opens g u.seen a.started o
-has_opened g a u v opens told = let x = opens told in (x.0, x.1)
-
 pub opened_stands : (s : Source) (g : Given) (u v : View) → OpensStanding u v → IsTrue u.tells → IsGivenSource g s → AllStand s u → AllStand s v
 opened_stands s g u v moments told given stand c left = (moments told s given.source stand).now told c left
 

@@ -37,8 +37,8 @@ none_some x e = cc
 not_lived : (x : Started) (l : Lived) → course.Left x ≡ course.Lived l → ⊥
 not_lived x l e = cc
 
-not_left : (l : Lived) → course.Opening ≡ course.Lived l → ⊥
-not_left l e = cc
+not_opening : (l : Lived) → course.Opening ≡ course.Lived l → ⊥
+not_opening l e = cc
 
 one_lived : (l k : Lived) → course.Lived l ≡ course.Lived k → l ≡ k
 one_lived l k e = cc
@@ -124,7 +124,7 @@ module _ (g : Given) (s : Source) (spaced : IsSpacedBy s g.every) (latest : Star
   opening_next number pick v crash = record {
     as_course = record { starts = λ x e. absurd (none_some x e); stopped = tt };
     between = record { stand = crash_stands w v crash s stand; one_chain = crash_chain w v crash; latest_held = crash_start w v crash latest (start_kept latest u w told keeps between.latest_held); known_held = tt };
-    output = λ l e. absurd (not_left l e);
+    output = λ l e. absurd (not_opening l e);
   }
 
   -- ---- by what the life came to

@@ -16,7 +16,8 @@ use Rattle.drilled_lives.specs.declared.course.Course.TheVariants as course
 
 -- the newest image of the source's run within n ticks has this number, and was taken after so many steps
 abbrev pub IsNewestImage : Source → (every n image step : ℕ) → Type 0
-IsNewestImage s every n image step = (before : List TakenImage) × (newest : TakenImage) × (images_of s every n ≡ before ++ newest ∷ []) × (newest.fields.number ≡ image) × (newest.fields.steps ≡ step)
+IsNewestImage s every n image step = (before : List TakenImage) × (newest : TakenImage)
+    × (images_of s every n ≡ before ++ newest ∷ []) × (newest.fields.number ≡ image) × (newest.fields.steps ≡ step)
 
 -- a life resumes at that image, or begins where the run has none within n ticks
 abbrev pub StartsBehind : Source → (every n : ℕ) → Started → Type 0

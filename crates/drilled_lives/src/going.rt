@@ -36,8 +36,8 @@ pub(crate) fn go_to<D: Disk, L: Ledger>(
     requires some { 0 < blank.parts }
     ensures started { IfOk result (λ course. start_of course ≡ Some life.old.started) }
     ensures lived { IfOk result (λ course. stop ≡ None → IsLived course) }
-    ensures comes { IfOk result (λ course. (s : Source) (o : Origin) → IsLifeOf s o [] life.old (D.view disk.old) → o.state.ticks ≤ life.old.machine.state.ticks
-        → ComesAsRun s o.taking.every until stop course (D.view disk.new)) }
+    ensures comes { IfOk result (λ course. (s : Source) (o : Origin) → IsLifeOf s o [] life.old (D.view disk.old)
+        → o.state.ticks ≤ life.old.machine.state.ticks → ComesAsRun s o.taking.every until stop course (D.view disk.new)) }
     ensures stand { (s : Source) (o : Origin) → IsLifeOf s o [] life.old (D.view disk.old) → AllStand s (D.view disk.new) }
     ensures later { LosesNone (D.view disk.old) (D.view disk.new) }
     ensures steady { Steady (D.view disk.old) (D.view disk.new) }
@@ -73,8 +73,8 @@ fn leave_at<D: Disk, L: Ledger>(
     requires within { tick ≤ until }
     requires fits { FitsDisk life.old (D.view disk.old) }
     ensures started { IfOk result (λ course. start_of course ≡ Some life.old.started) }
-    ensures comes { IfOk result (λ course. (s : Source) (o : Origin) → IsLifeOf s o [] life.old (D.view disk.old) → o.state.ticks ≤ life.old.machine.state.ticks
-        → ComesAsRun s o.taking.every until (Some tick) course (D.view disk.new)) }
+    ensures comes { IfOk result (λ course. (s : Source) (o : Origin) → IsLifeOf s o [] life.old (D.view disk.old)
+        → o.state.ticks ≤ life.old.machine.state.ticks → ComesAsRun s o.taking.every until (Some tick) course (D.view disk.new)) }
     ensures stand { (s : Source) (o : Origin) → IsLifeOf s o [] life.old (D.view disk.old) → AllStand s (D.view disk.new) }
     ensures later { LosesNone (D.view disk.old) (D.view disk.new) }
     ensures steady { Steady (D.view disk.old) (D.view disk.new) }
@@ -102,8 +102,8 @@ fn live_out<D: Disk, L: Ledger>(
     requires bound { life.old.machine.state.ticks ≤ until }
     requires fits { FitsDisk life.old (D.view disk.old) }
     ensures started { IfOk result (λ l. l.started ≡ life.old.started) }
-    ensures comes { IfOk result (λ l. (s : Source) (o : Origin) → IsLifeOf s o [] life.old (D.view disk.old) → o.state.ticks ≤ life.old.machine.state.ticks
-        → EndsWith s o.taking.every until l (D.view disk.new)) }
+    ensures comes { IfOk result (λ l. (s : Source) (o : Origin) → IsLifeOf s o [] life.old (D.view disk.old)
+        → o.state.ticks ≤ life.old.machine.state.ticks → EndsWith s o.taking.every until l (D.view disk.new)) }
     ensures stand { (s : Source) (o : Origin) → IsLifeOf s o [] life.old (D.view disk.old) → AllStand s (D.view disk.new) }
     ensures later { LosesNone (D.view disk.old) (D.view disk.new) }
     ensures steady { Steady (D.view disk.old) (D.view disk.new) }

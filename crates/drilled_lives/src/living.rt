@@ -74,7 +74,8 @@ pub(crate) fn live_to<D: Disk>(
         → IsSpacedBy s how.entry.every → AllStand s (D.view disk.old)
         → LivesTo (given_by compiled.now marks.now input.now how.entry) s step (D.view disk.old) course (D.view disk.new)) }
     ensures lived { IfOk result (λ course. step ≡ None → IsLived course) }
-    ensures opened { IfErr result (λ fault. IsTrue (D.view disk.old).tells → HasOpened (given_by compiled.now marks.now input.now how.entry) (D.view disk.old).seen fault) }
+    ensures opened { IfErr result (λ fault. IsTrue (D.view disk.old).tells
+        → HasOpened (given_by compiled.now marks.now input.now how.entry) (D.view disk.old).seen fault) }
     ensures stand { IsTrue (D.view disk.old).tells → (s : Source) → IsGivenSource (given_by compiled.now marks.now input.now how.entry) s
         → AllStand s (D.view disk.old) → AllStand s (D.view disk.new) }
     ensures later { LosesNone (D.view disk.old) (D.view disk.new) }

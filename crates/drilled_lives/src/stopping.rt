@@ -30,7 +30,8 @@ pub(crate) fn live_stopped(
     requires max { (2 ≤ how.max) × (how.max ≤ 64) }
     requires pace { 1 ≤ length how.pace.now }
     requires short { length input.now ≤ 16777216 }
-    ensures follows { IfOk result (λ course. Follows (given_by compiled.now marks.now input.now how.entry) (Some stop) (view_of disk.old) course (view_of disk.new)) }
+    ensures follows { IfOk result (λ course. Follows (given_by compiled.now marks.now input.now how.entry) (Some stop)
+        (view_of disk.old) course (view_of disk.new)) }
     ensures crashed { IfOk result (λ course. IsCrashedBy stop course disk.new) }
 {
     match stop {
@@ -58,7 +59,8 @@ pub(crate) fn live_out(
     requires max { (2 ≤ how.max) × (how.max ≤ 64) }
     requires pace { 1 ≤ length how.pace.now }
     requires short { length input.now ≤ 16777216 }
-    ensures follows { IfOk result (λ course. Follows (given_by compiled.now marks.now input.now how.entry) None (view_of disk.old) course (view_of disk.new)) }
+    ensures follows { IfOk result (λ course. Follows (given_by compiled.now marks.now input.now how.entry) None
+        (view_of disk.old) course (view_of disk.new)) }
 {
     disk.fuse(0);
     let course = live_to(alloc, compiled, marks, input, disk, how, None)?;
@@ -79,7 +81,8 @@ fn live_to_step(
     requires max { (2 ≤ how.max) × (how.max ≤ 64) }
     requires pace { 1 ≤ length how.pace.now }
     requires short { length input.now ≤ 16777216 }
-    ensures follows { IfOk result (λ course. Follows (given_by compiled.now marks.now input.now how.entry) (Some (AtStep step)) (view_of disk.old) course (view_of disk.new)) }
+    ensures follows { IfOk result (λ course. Follows (given_by compiled.now marks.now input.now how.entry) (Some (AtStep step))
+        (view_of disk.old) course (view_of disk.new)) }
     ensures crashed { IfOk result (λ course. IsCrashedBy (AtStep step) course disk.new) }
 {
     disk.fuse(0);
@@ -108,7 +111,8 @@ fn live_in_call(
     requires max { (2 ≤ how.max) × (how.max ≤ 64) }
     requires pace { 1 ≤ length how.pace.now }
     requires short { length input.now ≤ 16777216 }
-    ensures follows { IfOk result (λ course. Follows (given_by compiled.now marks.now input.now how.entry) (Some (InCall number pick)) (view_of disk.old) course (view_of disk.new)) }
+    ensures follows { IfOk result (λ course. Follows (given_by compiled.now marks.now input.now how.entry) (Some (InCall number pick))
+        (view_of disk.old) course (view_of disk.new)) }
     ensures crashed { IfOk result (λ course. IsCrashedBy (InCall number pick) course disk.new) }
 {
     disk.fuse(number);

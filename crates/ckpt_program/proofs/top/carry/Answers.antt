@@ -242,3 +242,28 @@ returns-in-Clear-clause-told g c = rw c.in-Clear.is (told_cleared c.args.words.n
 
 pub returns-in-Clear-clause-lasting : goal.returns-in-Clear-clause-lasting
 returns-in-Clear-clause-lasting g c = rw c.in-Clear.is (λ life. absurd life)
+pub returns-in-Why-clause-answer : goal.returns-in-Why-clause-answer
+returns-in-Why-clause-answer g c =
+    let view = g.H.Shelf.view in
+    rw c.in-Why.is (subst (λ (n : List ℕ). Comes (row.Why n c.in-Why.exclude c.in-Why.cell (sight (view c.args.shelf.now)) (sight (view c.why.new.shelf))) c.why.result) c.word-in-Why.ensures.answer c.why.ensures.answer)
+
+pub returns-in-Why-clause-stays : goal.returns-in-Why-clause-stays
+returns-in-Why-clause-stays g c = λ kept. stays_still (g.D.Disk.view c.args.disk.now) (g.met.D.Disk.lawful c.args.disk.now)
+
+pub returns-in-Why-clause-count : goal.returns-in-Why-clause-count
+returns-in-Why-clause-count g c = calm_disk_still c.why.result (g.D.Disk.view c.args.disk.now).faults
+
+pub returns-in-Why-clause-keeps : goal.returns-in-Why-clause-keeps
+returns-in-Why-clause-keeps g c = keeps_still c.why.result (g.D.Disk.view c.args.disk.now)
+
+pub returns-in-Why-clause-moments : goal.returns-in-Why-clause-moments
+returns-in-Why-clause-moments g c = rw c.in-Why.is (λ told s none. absurd none)
+
+pub returns-in-Why-clause-later : goal.returns-in-Why-clause-later
+returns-in-Why-clause-later g c = λ spares. let v = g.D.Disk.view c.args.disk.now in images_stay v v (g.met.D.Disk.tells_all c.args.disk.now) (stays_still v (g.met.D.Disk.lawful c.args.disk.now))
+
+pub returns-in-Why-clause-told : goal.returns-in-Why-clause-told
+returns-in-Why-clause-told g c = rw c.in-Why.is tt
+
+pub returns-in-Why-clause-lasting : goal.returns-in-Why-clause-lasting
+returns-in-Why-clause-lasting g c = rw c.in-Why.is (λ life. absurd life)
