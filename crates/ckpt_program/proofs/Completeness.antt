@@ -21,7 +21,7 @@ use Rattle.ckpt_program.specs.Sight.{sight}
 use Rattle.ckpt_program.specs.Stage.{Comes}
 use Rattle.ckpt_program.specs.Listed.{IsListing}
 use Rattle.ckpt_program.specs.Report.{IsReport}
-use Rattle.ckpt_program.specs.Why.{HasBoth, LacksOne, LookedUp, IsReasonText}
+use Rattle.ckpt_program.specs.Why.{IsReasonText}
 use Rattle.ckpt_program.specs.Rows.{IsCounted, Counted, Evaluated, Printed, Explained}
 use Rattle.ckpt_program.specs.Rows as row
 use Rattle.ckpt_program.specs.Carries.{word_at, NoCommand, CarriesSome}

@@ -242,6 +242,7 @@ returns-in-Clear-clause-told g c = rw c.in-Clear.is (told_cleared c.args.words.n
 
 pub returns-in-Clear-clause-lasting : goal.returns-in-Clear-clause-lasting
 returns-in-Clear-clause-lasting g c = rw c.in-Clear.is (λ life. absurd life)
+
 pub returns-in-Why-clause-answer : goal.returns-in-Why-clause-answer
 returns-in-Why-clause-answer g c =
     let view = g.H.Shelf.view in
