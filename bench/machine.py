@@ -2,8 +2,9 @@
 """Compiles the large job of stencil.c, runs its code to the end on the machine and in a switch interpreter in C, and prints the ratio of their times.
 
 The code is that of `ckpt compile`. It copies the machine's crates into a folder of its own, writes two drivers beside them, of which one calls `Machine::run_on` and the other
-`Machine::run_for`, one tick a call as the run of a program does, lets `rt run` prove and build them, builds the C interpreter with gcc -O2, and runs the three in turn.
-Usage: bench/machine.py [FOLDER]
+`Machine::run_for`, one tick a call as the run of a program does, lets `rt run` prove and build them, builds the C interpreter with gcc -O2, and runs the three in turn,
+and beside them the whole job by `ckpt run` on a directory in memory, without an image.
+Usage: bench/machine.py PROGRAM [FOLDER]     PROGRAM: the built `ckpt`. FOLDER: where the drivers are built.
 """
 
 import os
@@ -40,10 +41,10 @@ def write(path, text):
         f.write(text)
 
 
-def compiled(source):
+def compiled(program, source):
     """The listing of a source as pairs of name and operand, in the names of the machine's sources."""
     names = {n.upper(): n for n in NAMES}
-    text = subprocess.run([os.path.join(HERE, "..", "ckpt"), "compile", source], check=True, capture_output=True, text=True).stdout
+    text = subprocess.run([program, "compile", source], check=True, capture_output=True, text=True).stdout
     words = [line.split(" ")[1:] for line in text.splitlines()]
     return [(names[w[0]], int(w[1]) if len(w) > 1 else None) for w in words]
 
@@ -78,26 +79,38 @@ def build_rattle(folder, code):
     return programs
 
 
-def seconds(program):
+def seconds(words):
     before = resource.getrusage(resource.RUSAGE_CHILDREN).ru_utime
-    text = subprocess.run([program], check=True, capture_output=True, text=True).stdout
+    text = subprocess.run(words, check=True, capture_output=True, text=True).stdout
     return resource.getrusage(resource.RUSAGE_CHILDREN).ru_utime - before, text.strip().split("\n")[-1]
 
 
+def job_words(program, folder):
+    """The job by `run`, in a new store in memory each time, with no image."""
+    empty = os.path.join(folder, "empty")
+    write(empty, "")
+    store = os.path.join(tempfile.mkdtemp(prefix="machine-bench-", dir="/dev/shm"), "store")
+    return [program, "run", os.path.join(HERE, "stencil.c"), empty, store, "--every", "4294967295"], store
+
+
 def main():
-    folder = sys.argv[1] if len(sys.argv) > 1 else tempfile.mkdtemp(prefix="machine-bench-")
-    code = compiled(os.path.join(HERE, "stencil.c"))
+    program = os.path.abspath(sys.argv[1])
+    folder = sys.argv[2] if len(sys.argv) > 2 else tempfile.mkdtemp(prefix="machine-bench-")
+    code = compiled(program, os.path.join(HERE, "stencil.c"))
     print("%d instructions" % len(code))
-    programs = {"C, gcc -O2": build_c(folder, code), **build_rattle(folder, code)}
+    job, store = job_words(program, folder)
+    programs = {"C, gcc -O2": [build_c(folder, code)], **{call: [path] for call, path in build_rattle(folder, code).items()}, "ckpt run": job}
     times = {name: [] for name in programs}
     for _ in range(7):
-        for name, program in programs.items():
-            t, last = seconds(program)
+        for name, words in programs.items():
+            shutil.rmtree(store, ignore_errors=True)
+            t, last = seconds(words)
             times[name].append(t)
             print("%-12s %.3f s  %s" % (name, t, last))
+    shutil.rmtree(os.path.dirname(store))
     best = {name: min(ts) for name, ts in times.items()}
     print("least: " + ", ".join("%s %.3f s" % pair for pair in best.items()))
-    print("ratios: " + ", ".join("%s %.2f" % (call, best[call] / best["C, gcc -O2"]) for call in DRIVERS))
+    print("ratios: " + ", ".join("%s %.2f" % (call, best[call] / best["C, gcc -O2"]) for call in DRIVERS) + ", ckpt run to run_on %.2f" % (best["ckpt run"] / best["run_on"]))
 
 
 main()
