@@ -34,6 +34,10 @@ mod report;
 #[cfg(test)]
 mod report_rows;
 mod report_text;
+#[cfg(test)]
+mod rule_rows;
+#[cfg(test)]
+mod run_rows;
 mod stages;
 mod stop;
 #[cfg(test)]

@@ -1,8 +1,8 @@
-use crate::check_rows::{ACCEPTED, DIRECTIVES, NAMES, SCAN, SYNTAX, TYPES};
-use crate::plain_rows::{
-    BOUNDED, BYTES, FUNCTIONS, LOOPS, NUMBERS, ORDER, READING, Row, TRAPS, WHOLE_PROGRAMS,
-};
+use crate::check_rows::{ACCEPTED, SCAN, SYNTAX};
+use crate::plain_rows::{NUMBERS, ORDER, Row, TRAPS, WHOLE_PROGRAMS};
 use crate::report_rows::{LISTINGS, REPORTS};
+use crate::rule_rows::{DIRECTIVES, NAMES, TYPES};
+use crate::run_rows::{BOUNDED, BYTES, FUNCTIONS, LOOPS, READING};
 use crate::top::ckpt;
 use ckpt_base::{Bytes, MemShelf, MemSink, Text};
 use disk_model::MemDisk;
