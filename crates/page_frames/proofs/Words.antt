@@ -143,6 +143,23 @@ words_part bs a (suc c) (suc n) k le =
     let e : a + 1 + c ≡ a + suc c = omega arith in
     words_part bs (a + 1) c n k (omega arith) ∙ ap (λ i. words_from bs i k) e
 
+word_fits : (bs : List ℕ) (c : ℕ) → ((i : ℕ) → slice_index bs i < 256) → word_at bs c < 2 ^ 64
+unfolding word_at
+word_fits bs c small =
+    let h0 = small (c * 8) in let h1 = small (c * 8 + 1) in let h2 = small (c * 8 + 2) in let h3 = small (c * 8 + 3) in
+    let h4 = small (c * 8 + 4) in let h5 = small (c * 8 + 5) in let h6 = small (c * 8 + 6) in let h7 = small (c * 8 + 7) in
+    omega arith
+
+-- the words of n cells that stand in bytes are words
+pub words_fit : (bs : List ℕ) (c n : ℕ) → ((i : ℕ) → slice_index bs i < 256) → (i : ℕ) → slice_index (words_from bs c n) i < 2 ^ 64
+words_fit bs c zero small i = omega arith
+words_fit bs c (suc n) small zero = word_fits bs c small
+words_fit bs c (suc n) small (suc i) = words_fit bs (c + 1) n small i
+
+-- the cells from the first on, and their bytes
+pub cells_are : (bs : List ℕ) (first count n : ℕ) → first + count ≤ n → take count (drop first (words_of bs n)) ≡ words_from bs first count
+cells_are bs first count n le = let z : 0 + first ≡ first = omega arith in words_part bs 0 first n count le ∙ ap (λ i. words_from bs i count) z
+
 pub frame_is : (bs : List ℕ) (p n : ℕ) → ((i : ℕ) → slice_index bs i < 256) → n * 8 ≤ length bs → 512 * p + 512 ≤ n → frame_bytes (words_of bs n) p ≡ take 4096 (drop (p * 4096) bs)
 frame_is bs p n small fits le =
     let k : 512 * p + 512 - 512 * p ≡ 512 = omega arith in

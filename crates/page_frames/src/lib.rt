@@ -5,8 +5,9 @@
 //! after another: `frame` is the only contract that speaks of them.
 #![tactic(auto)]
 
-ghost use Rattle.std.specs.Prelude.{◌≡◌, ℕ, take, drop, ◌+◌, ◌*◌, ◌<◌, ◌≤◌, length, slice_index, slice_set, replicate, IfOk};
+ghost use Rattle.std.specs.Prelude.{◌≡◌, ℕ, take, drop, ◌+◌, ◌*◌, ◌<◌, ◌≤◌, ◌^◌, length, slice_index, slice_set, replicate, IfOk};
 ghost use Rattle.std.specs.Int.{w64, to_be_bytes, from_be_bytes};
+ghost use Rattle.std.specs.List.{flat_map};
 ghost use Rattle.page_frames.specs.Words.{eight, fill_word, words_of};
 ghost use Rattle.page_frames.specs.Frame.{HasPage, page_words, frame_bytes, SameElsewhere};
 ghost use borrow.Rule.Slice.PartMut.{put_mid};
@@ -91,6 +92,15 @@ impl Frames {
         frame_part(&self.bytes, p as usize * FRAME_BYTES)
     }
 
+    /// Lends the bytes of `count` cells from cell `first` on, eight for each word, the highest first.
+    pub fn cell_bytes(&self, first: u32, count: u32) -> &[u8]
+        requires cells { first + count ≤ length self.now }
+        ensures answer { result.now ≡ flat_map (to_be_bytes w64) (take count (drop first self.now)) }
+        ensures words { (i : ℕ) → slice_index (take count (drop first self.now)) i < 2 ^ 64 }
+    {
+        cells_part(&self.bytes, first as usize, count as usize)
+    }
+
     /// Makes these 4,096 bytes page `p`; all other pages stay.
     pub fn load_frame(&mut self, p: u32, bytes: &[u8])
         requires page { HasPage self.old p }
@@ -141,6 +151,15 @@ fn frame_part(s: &[u8], at: usize) -> &[u8]
     ensures bytes { (i : ℕ) → slice_index s.now i < 256 }
 {
     &s[at..at + FRAME_BYTES]
+}
+
+/// The bytes of `count` words from the one in place `first` on.
+fn cells_part(s: &[u8], first: usize, count: usize) -> &[u8]
+    requires { (first + count) * 8 ≤ length s.now }
+    ensures part { result.now ≡ take (count * 8) (drop (first * 8) s.now) }
+    ensures bytes { (i : ℕ) → slice_index s.now i < 256 }
+{
+    &s[first * CELL_BYTES..(first + count) * CELL_BYTES]
 }
 
 /// Writes `bytes` over those from place `at` on.
