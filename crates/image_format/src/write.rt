@@ -155,20 +155,5 @@ fn write_run<W: Words>(run: &Run, words: &W, out: &mut Bytes)
 {
     out.append(&run.first.to_be_bytes());
     out.append(&run.count.to_be_bytes());
-    write_words(run.first, run.count, words, out);
-}
-
-// The words of the cells from `first` on.
-fn write_words<W: Words>(first: u32, count: u32, words: &W, out: &mut Bytes)
-    requires cells { first + count ≤ length (W.words words.now) }
-    requires bound { first + count ≤ 262144 }
-    requires room { 8 * count ≤ out.old.spare }
-    ensures list { out.new.list ≡ out.old.list ++ flat_map (to_be_bytes w64) (take count (drop first (W.words words.now))) }
-    ensures spare { out.new.spare + 8 * count ≡ out.old.spare }
-    ensures words { AreWords (take count (drop first (W.words words.now))) }
-{
-    for i in 0..count {
-        let word = words.word_of(first + i);
-        out.append(&word.to_be_bytes());
-    }
+    words.append_words(run.first, run.count, out);
 }

@@ -96,6 +96,7 @@ impl Frames {
     pub fn cell_bytes(&self, first: u32, count: u32) -> &[u8]
         requires cells { first + count ≤ length self.now }
         ensures answer { result.now ≡ flat_map (to_be_bytes w64) (take count (drop first self.now)) }
+        ensures size { length result.now ≡ 8 * count }
         ensures words { (i : ℕ) → slice_index (take count (drop first self.now)) i < 2 ^ 64 }
     {
         cells_part(&self.bytes, first as usize, count as usize)

@@ -1,9 +1,9 @@
-use Rattle.std.proofs.Common.{ℕ, List, ◌<◌, ◌≡◌, ◌+◌, ◌*◌, ◌^◌, take, drop, ap, sym, ◌∙◌, subst, arith}
+use Rattle.std.proofs.Common.{ℕ, List, ◌<◌, ◌≡◌, ◌+◌, ◌*◌, ◌^◌, take, drop, length, ap, sym, ◌∙◌, subst, arith}
 use Rattle.std.specs.Prelude.{slice_index}
 use Rattle.std.specs.List.{flat_map}
 use Rattle.std.specs.Int.{w64, to_be_bytes}
 use Rattle.page_frames.specs.Words.{words_from}
-use Rattle.page_frames.proofs.Words.{length_view, cells_are, words_fit, bytes_of_words}
+use Rattle.page_frames.proofs.Words.{length_view, length_part, cells_are, words_fit, bytes_of_words}
 use Rattle.page_frames.proofs.Frames.cell_bytes.Goals as goal
 
 pub cells_part-requires : goal.cells_part-requires
@@ -26,5 +26,8 @@ returns c =
           ∙ ap (λ b. take (count * 8) (drop (first * 8) b)) c.deref.ensures.value
           ∙ sym (bytes_of_words bytes first count small (omega arith))
           ∙ ap (flat_map (to_be_bytes w64)) (sym cells);
+      size =
+          let n = ap length (c.cells_part.ensures.part ∙ ap (λ b. take (count * 8) (drop (first * 8) b)) c.deref.ensures.value) ∙ length_part bytes (first * 8) (count * 8) (omega arith) in
+          omega arith;
       words = λ i. subst (λ (ws : List ℕ). slice_index ws i < 2 ^ 64) (sym cells) (words_fit bytes first count small i);
     }

@@ -1,11 +1,11 @@
 use Rattle.std.proofs.Common.{arith, ◌≡◌, ◌∙◌, sym, ◌<◌, length, drop, get_or}
 use Rattle.std.proofs.lemmas.List.{length-drop, get_or-drop}
 use Rattle.image_format.proofs.WriteLaws.{texts_more, words_more}
-use Rattle.image_format.proofs.write.write_words.Goals as goal
+use Rattle.image_format.proofs.words.append_each.Goals as goal
 
 pub loop-i-preserved : goal.loop-i-preserved
-loop-i-preserved g c =
-    let memory = g.W.Words.words c.args.words.now in
+loop-i-preserved c =
+    let memory = c.args.words.now in
     let lt : c.loop-i.i < length (drop c.args.first memory) = omega (arith, length-drop c.args.first memory) in
     let is : c.word_of-word.result ≡ get_or (drop c.args.first memory) c.loop-i.i 0 = c.word_of-word.ensures.answer ∙ sym (get_or-drop c.args.first memory c.loop-i.i 0) in
     record {
