@@ -1,5 +1,5 @@
 -- The joined content of records.
-use Rattle.std.proofs.Common.{◌≡◌, ◌≢◌, ⊎_elim, refl, sym, ◌∙◌, ap, ℕ, ◌+◌, ◌-◌, ◌<◌, ◌≤◌, ◌==◌, nat_le, nat_lt, ◌&&◌, Bool, true, false, cond, List, [], ◌∷◌, ◌++◌, length, replicate, Option, Some, None, arith}
+use Rattle.std.proofs.Common.{◌≡◌, ◌≢◌, ⊎_elim, inl, inr, refl, sym, ◌∙◌, ap, ℕ, ◌+◌, ◌-◌, ◌<◌, ◌≤◌, ◌==◌, nat_le, nat_lt, ◌&&◌, Bool, true, false, cond, List, [], ◌∷◌, ◌++◌, length, replicate, Option, Some, None, arith}
 use Rattle.std.specs.Prelude.{slice_index, slice_index_or, slice_get, if◌then◌else◌}
 use Rattle.std.specs.Option.{option_or}
 use Rattle.std.proofs.Math.ListN.{set}
@@ -7,8 +7,9 @@ use Rattle.std.proofs.lemmas.Bool.{cases_lt, cases_eq}
 use Rattle.std.proofs.lemmas.Bool.Decides.{nat_tests}
 use Rattle.std.proofs.lemmas.List.{get_or-replicate, get_or_past, get_or-set_same, get_or-set_other, length-replicate}
 use Rattle.std.proofs.lemmas.Option.{slice_get_past, slice_get-get_or}
-use Rattle.page_frames.specs.Words.{word_at, words_of}
-use Rattle.page_frames.proofs.Words.{length_words, get_words}
+use Rattle.page_frames.specs.Words.{words_of}
+use Rattle.page_frames.specs.Frame.{IsOutside}
+use Rattle.page_frames.proofs.Words.{length_words}
 use Rattle.image_format.specs.Image.{WordRun, Image, AreRuns, word_in_run, word_in_runs}
 use Rattle.image_chain.specs.Memory.{memory, joined, kept_word}
 
@@ -18,37 +19,24 @@ none_listed n words listed c is =
     let none : slice_index_or listed c false ≡ false = ap (λ (l : List Bool). slice_index_or l c false) is ∙ ⊎_elim (λ lt. get_or-replicate n c false false lt) (λ ge. get_or_past (replicate n false) c false (omega (arith, length-replicate n false))) (cases_lt c n) in
     ap (λ (b : Bool). cond b (Some (slice_index words c)) None) none
 
--- one cell more is listed
-one_listed : (words : List ℕ) (listed : List Bool) (at w c : ℕ) → at < length words → length listed ≡ length words → kept_word (joined (set words at w) (set listed at true)) c ≡ (if c == at then Some w else kept_word (joined words listed) c)
-one_listed words listed at w c lt same = ⊎_elim
-    (λ is. let t : (c == at) ≡ true = grind (arith, nat_tests) in
-    ap (λ (x : ℕ). kept_word (joined (set words at w) (set listed at true)) x) is
-    ∙ rw (get_or-set_same listed at true false (omega arith), get_or-set_same words at w 0 lt) (sym (ap (λ (b : Bool). cond b (Some w) (kept_word (joined words listed) c)) t)))
-    (λ is_not. let t : (c == at) ≡ false = grind (arith, nat_tests) in
-    rw (get_or-set_other listed at c true false is_not, get_or-set_other words at c w 0 is_not) (sym (ap (λ (b : Bool). cond b (Some w) (kept_word (joined words listed) c)) t)))
-    (cases_eq c at)
-
 -- whether a cell is among the first i cells of a run
 abbrev pub among : ℕ → ℕ → ℕ → Bool
 among first i c = nat_le first c && nat_lt c (first + i)
 
-pub none_yet : (first c : ℕ) (run old : Option ℕ) → old ≡ cond (among first 0 c) run old
-none_yet first c run old = let t : among first 0 c ≡ false = grind (arith, nat_tests) in sym (ap (λ (b : Bool). cond b run old) t)
+-- ---- cells that are listed, one after another
 
-pub one_more_listed : (words : List ℕ) (listed : List Bool) (bytes : List ℕ) (first count i w c : ℕ) (old : Option ℕ) → i < count → first + count ≤ length words → length listed ≡ length words → w ≡ slice_index (words_of bytes count) i
-    → kept_word (joined words listed) c ≡ cond (among first i c) (Some (slice_index (words_of bytes count) (c - first))) old
-    → kept_word (joined (set words (first + i) w) (set listed (first + i) true)) c ≡ cond (among first (i + 1) c) (Some (slice_index (words_of bytes count) (c - first))) old
-one_more_listed words listed bytes first count i w c old lt within same is so_far =
-    one_listed words listed (first + i) w c (omega arith) same ∙ ⊎_elim
+pub not_yet_marked : (listed : List Bool) (first c : ℕ) → slice_index_or listed c false ≡ cond (among first 0 c) true (slice_index_or listed c false)
+not_yet_marked listed first c = let t : among first 0 c ≡ false = grind (arith, nat_tests) in sym (ap (λ (b : Bool). cond b true (slice_index_or listed c false)) t)
+
+pub one_more_marked : (now old : List Bool) (first i c : ℕ) → first + i < length now → slice_index_or now c false ≡ cond (among first i c) true (slice_index_or old c false)
+    → slice_index_or (set now (first + i) true) c false ≡ cond (among first (i + 1) c) true (slice_index_or old c false)
+one_more_marked now old first i c lt so_far = ⊎_elim
     (λ here.
-    let t : (c == first + i) ≡ true = grind (arith, nat_tests) in
     let u : among first (i + 1) c ≡ true = grind (arith, nat_tests) in
-    let e : c - first ≡ i = omega arith in
-    rw (t, u) (ap Some (is ∙ ap (slice_index (words_of bytes count)) (sym e))))
+    ap (λ (x : ℕ). slice_index_or (set now (first + i) true) x false) here ∙ get_or-set_same now (first + i) true false lt ∙ sym (ap (λ (b : Bool). cond b true (slice_index_or old c false)) u))
     (λ elsewhere.
-    let t : (c == first + i) ≡ false = grind (arith, nat_tests) in
     let u : among first (i + 1) c ≡ among first i c = same_test elsewhere in
-    ap (λ (b : Bool). cond b (Some w) (kept_word (joined words listed) c)) t ∙ so_far ∙ ap (λ (b : Bool). cond b (Some (slice_index (words_of bytes count) (c - first))) old) (sym u))
+    get_or-set_other now (first + i) c true false elsewhere ∙ so_far ∙ ap (λ (b : Bool). cond b true (slice_index_or old c false)) (sym u))
     (cases_eq c (first + i))
   where
     same_test : c ≢ first + i → among first (i + 1) c ≡ among first i c
@@ -60,11 +48,34 @@ one_more_listed words listed bytes first count i w c old lt within same is so_fa
         (cases_lt c (first + i)))
         (cases_lt c first)
 
-pub word_read : (bytes : List ℕ) (count i w : ℕ) → i < count → w ≡ word_at bytes (0 + i) → w ≡ slice_index (words_of bytes count) i
-word_read bytes count i w lt is = is ∙ sym (get_words bytes 0 count i lt)
-
-pub word_is : (bytes : List ℕ) (i w : ℕ) → w ≡ word_at bytes i → w ≡ word_at bytes (0 + i)
-word_is bytes i w is = let e : i ≡ 0 + i = omega arith in is ∙ ap (word_at bytes) e
+-- the cells of a run are loaded, and listed
+pub run_loaded : (old new : List ℕ) (listed marked : List Bool) (bytes : List ℕ) (first count c : ℕ) → ((i : ℕ) → i < count → slice_index new (first + i) ≡ slice_index (words_of bytes count) i)
+    → ((k : ℕ) → IsOutside first count k → slice_index new k ≡ slice_index old k) → ((k : ℕ) → slice_index_or marked k false ≡ cond (among first count k) true (slice_index_or listed k false))
+    → kept_word (joined new marked) c ≡ cond (among first count c) (Some (slice_index (words_of bytes count) (c - first))) (kept_word (joined old listed) c)
+run_loaded old new listed marked bytes first count c loaded same marks = ⊎_elim
+    (λ low.
+    let t : among first count c ≡ false = grind (arith, nat_tests) in
+    outside t (same c (inl low)))
+    (λ high. ⊎_elim
+    (λ inside.
+    let t : among first count c ≡ true = grind (arith, nat_tests) in
+    let e : first + (c - first) ≡ c = omega arith in
+    let marked_is : slice_index_or marked c false ≡ true = marks c ∙ ap (λ (b : Bool). cond b true (slice_index_or listed c false)) t in
+    let word : slice_index new c ≡ slice_index (words_of bytes count) (c - first) = ap (slice_index new) (sym e) ∙ loaded (c - first) (omega arith) in
+    ap (λ (b : Bool). cond b (Some (slice_index new c)) None) marked_is ∙ ap Some word
+    ∙ sym (ap (λ (b : Bool). cond b (Some (slice_index (words_of bytes count) (c - first))) (kept_word (joined old listed) c)) t))
+    (λ past.
+    let t : among first count c ≡ false = grind (arith, nat_tests) in
+    outside t (same c (inr past)))
+    (cases_lt c (first + count)))
+    (cases_lt c first)
+  where
+    outside : among first count c ≡ false → slice_index new c ≡ slice_index old c
+        → kept_word (joined new marked) c ≡ cond (among first count c) (Some (slice_index (words_of bytes count) (c - first))) (kept_word (joined old listed) c)
+    outside t word =
+        let marked_is : slice_index_or marked c false ≡ slice_index_or listed c false = marks c ∙ ap (λ (b : Bool). cond b true (slice_index_or listed c false)) t in
+        ap (λ (b : Bool). cond b (Some (slice_index new c)) None) marked_is ∙ ap (λ (w : ℕ). cond (slice_index_or listed c false) (Some w) None) word
+        ∙ sym (ap (λ (b : Bool). cond b (Some (slice_index (words_of bytes count) (c - first))) (kept_word (joined old listed) c)) t)
 
 -- all cells of the run are listed
 pub run_listed : (bytes : List ℕ) (first count c : ℕ) (now old : Option ℕ) → now ≡ cond (among first count c) (Some (slice_index (words_of bytes count) (c - first))) old

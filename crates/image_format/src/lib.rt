@@ -14,14 +14,12 @@ mod fields;
 mod header;
 mod read;
 mod view;
-mod words;
 mod write;
 
 pub use fields::{BadRecord, Fields, Marks};
 pub use header::{BadHeader, Header, read_header, write_header};
 pub use view::{ImageView, RunView, Runs, read_record};
-pub use words::Words;
-pub use write::{record_length, write_record, write_record_from};
+pub use write::{record_length, write_record};
 
 /// No record begins another, but for the last byte, the gate of the next record: what two records have in common at the
 /// front of the same bytes is all of them.

@@ -8,7 +8,6 @@ ghost use Rattle.image_format.specs.Written.{AreListed, HasCells, HasWords, fill
 
 use crate::fields::{Fields, Marks};
 use crate::header::CLOSED;
-use crate::words::Words;
 use cell_sets::Run;
 use ckpt_base::Bytes;
 use page_frames::Frames;
@@ -37,21 +36,6 @@ pub fn write_record(fields: &Fields, runs: &[Run], words: &Frames, out: &mut Byt
     ensures found { IsImage (image_of fields.now runs.now words.now) }
     ensures size { image_length (image_of fields.now runs.now words.now) ≡ 109 + size_of_runs runs.now }
     ensures words { (c : ℕ) → word_in_runs (filled words.now runs.now) c ≡ listed_word runs.now words.now c }
-{
-    write_record_from(fields, runs, words, out);
-}
-
-/// Appends the record of the image that lists the cells of `runs` with their words there. Its last gate is closed.
-pub fn write_record_from<W: Words>(fields: &Fields, runs: &[Run], words: &W, out: &mut Bytes)
-    requires ranges { InRange fields.now }
-    requires rising { AreListed runs.now }
-    requires cells { HasCells (W.words words.now) runs.now }
-    requires room { 109 + size_of_runs runs.now ≤ out.old.spare }
-    ensures list { out.new.list ≡ out.old.list ++ spelling (image_of fields.now runs.now (W.words words.now)) 0 }
-    ensures spare { out.new.spare + 109 + size_of_runs runs.now ≡ out.old.spare }
-    ensures found { IsImage (image_of fields.now runs.now (W.words words.now)) }
-    ensures size { image_length (image_of fields.now runs.now (W.words words.now)) ≡ 109 + size_of_runs runs.now }
-    ensures words { (c : ℕ) → word_in_runs (filled (W.words words.now) runs.now) c ≡ listed_word runs.now (W.words words.now) c }
 {
     let length = record_length(runs) as u32;
     write_head(fields, length, runs.len() as u32, out);
@@ -132,28 +116,28 @@ fn flag(set: bool) -> u8
     if set { 1 } else { 0 }
 }
 
-fn write_runs<W: Words>(runs: &[Run], words: &W, out: &mut Bytes)
+fn write_runs(runs: &[Run], words: &Frames, out: &mut Bytes)
     requires rising { AreListed runs.now }
-    requires cells { HasCells (W.words words.now) runs.now }
+    requires cells { HasCells words.now runs.now }
     requires room { size_of_runs runs.now ≤ out.old.spare }
-    ensures list { out.new.list ≡ out.old.list ++ flat_map run_bytes (filled (W.words words.now) runs.now) }
+    ensures list { out.new.list ≡ out.old.list ++ flat_map run_bytes (filled words.now runs.now) }
     ensures spare { out.new.spare + size_of_runs runs.now ≡ out.old.spare }
-    ensures words { HasWords (W.words words.now) runs.now }
+    ensures words { HasWords words.now runs.now }
 {
     for run in runs {
         write_run(run, words, out);
     }
 }
 
-fn write_run<W: Words>(run: &Run, words: &W, out: &mut Bytes)
-    requires cells { run.now.first + run.now.count ≤ length (W.words words.now) }
+fn write_run(run: &Run, words: &Frames, out: &mut Bytes)
+    requires cells { run.now.first + run.now.count ≤ length words.now }
     requires bound { run.now.first + run.now.count ≤ 262144 }
     requires room { 8 + 8 * run.now.count ≤ out.old.spare }
-    ensures list { out.new.list ≡ out.old.list ++ run_bytes (filled_run (W.words words.now) run.now) }
+    ensures list { out.new.list ≡ out.old.list ++ run_bytes (filled_run words.now run.now) }
     ensures spare { out.new.spare + 8 + 8 * run.now.count ≡ out.old.spare }
-    ensures words { AreWords (take run.now.count (drop run.now.first (W.words words.now))) }
+    ensures words { AreWords (take run.now.count (drop run.now.first words.now)) }
 {
     out.append(&run.first.to_be_bytes());
     out.append(&run.count.to_be_bytes());
-    words.append_words(run.first, run.count, out);
+    out.append(words.cell_bytes(run.first, run.count));
 }

@@ -10,7 +10,7 @@ use Rattle.std.proofs.lemmas.List.{places, get_or-replicate, same_lists, get_or_
 use Rattle.std.proofs.Common.{length-drop, length-take-le, drop-cons}
 use borrow.Rule.Slice.PartMut.{put_mid}
 use Rattle.page_frames.specs.Words.{eight, word_at, words_from, words_of, fill_word}
-use Rattle.page_frames.specs.Frame.{frame_bytes, page_words}
+use Rattle.page_frames.specs.Frame.{IsOutside, frame_bytes, page_words}
 
 pub length_words : (bytes : List ℕ) (c n : ℕ) → length (words_from bytes c n) ≡ n
 length_words bytes c zero = refl
@@ -253,3 +253,40 @@ page_taken bs p n fits le =
     at_byte j i h lt =
         let e : p * 4096 + ((0 + j) * 8 + i) ≡ (512 * p + j) * 8 + i = omega arith in
         taken_get bs (p * 4096) 4096 ((0 + j) * 8 + i) (omega arith) ∙ ap (slice_index bs) e
+
+-- ---- a run of cells whose bytes were written
+
+part_loaded : (bs ys : List ℕ) (first count i : ℕ) → (first + count) * 8 ≤ length bs → length ys ≡ count * 8 → i < count → word_at (put_mid (first * 8) (count * 8) bs ys) (first + i) ≡ word_at ys (0 + i)
+part_loaded bs ys first count i le l lt =
+    word_of (put_mid (first * 8) (count * 8) bs ys) (eight ys ((0 + i) * 8)) (first + i) (λ j h. at_byte j h ∙ eight_get ys ((0 + i) * 8) j h) ∙ sym (word_eight ys (0 + i))
+  where
+    at_byte : (j : ℕ) → j < 8 → slice_index (put_mid (first * 8) (count * 8) bs ys) ((first + i) * 8 + j) ≡ slice_index ys ((0 + i) * 8 + j)
+    at_byte j h =
+        let e : (first + i) * 8 + j ≡ first * 8 + ((0 + i) * 8 + j) = omega arith in
+        ap (slice_index (put_mid (first * 8) (count * 8) bs ys)) e ∙ mid_same (first * 8) (count * 8) ((0 + i) * 8 + j) bs ys (omega arith) l (omega arith)
+
+pub cells_loaded : (bs ys : List ℕ) (first count n i : ℕ) → n * 8 ≤ length bs → first + count ≤ n → length ys ≡ count * 8 → i < count
+    → slice_index (words_of (put_mid (first * 8) (count * 8) bs ys) n) (first + i) ≡ slice_index (words_of ys count) i
+cells_loaded bs ys first count n i fits le l lt =
+    let new = put_mid (first * 8) (count * 8) bs ys in
+    let e : 0 + (first + i) ≡ first + i = omega arith in
+    get_words new 0 n (first + i) (omega arith) ∙ ap (word_at new) e ∙ part_loaded bs ys first count i (omega arith) l lt ∙ sym (get_words ys 0 count i lt)
+
+part_kept : (bs ys : List ℕ) (first count c : ℕ) → (first + count) * 8 ≤ length bs → length ys ≡ count * 8 → IsOutside first count c → word_at (put_mid (first * 8) (count * 8) bs ys) (0 + c) ≡ word_at bs (0 + c)
+part_kept bs ys first count c le l out =
+    word_of (put_mid (first * 8) (count * 8) bs ys) (eight bs ((0 + c) * 8)) (0 + c) (λ j h. at_byte j h ∙ eight_get bs ((0 + c) * 8) j h) ∙ sym (word_eight bs (0 + c))
+  where
+    at_byte : (j : ℕ) → j < 8 → slice_index (put_mid (first * 8) (count * 8) bs ys) ((0 + c) * 8 + j) ≡ slice_index bs ((0 + c) * 8 + j)
+    at_byte j h = ⊎_elim
+        (λ low. mid_below (first * 8) (count * 8) ((0 + c) * 8 + j) bs ys (omega arith) l (omega arith))
+        (λ high. mid_above (first * 8) (count * 8) ((0 + c) * 8 + j) bs ys (omega arith) l (omega arith))
+        out
+
+pub cells_kept : (bs ys : List ℕ) (first count n c : ℕ) → n * 8 ≤ length bs → first + count ≤ n → length ys ≡ count * 8 → IsOutside first count c
+    → slice_index (words_of (put_mid (first * 8) (count * 8) bs ys) n) c ≡ slice_index (words_of bs n) c
+cells_kept bs ys first count n c fits le l out =
+    let new = put_mid (first * 8) (count * 8) bs ys in
+    ⊎_elim
+    (λ lt. get_words new 0 n c lt ∙ part_kept bs ys first count c (omega arith) l out ∙ sym (get_words bs 0 n c lt))
+    (λ past. get_or_past (words_of new n) c 0 (omega (arith, length_words new 0 n)) ∙ sym (get_or_past (words_of bs n) c 0 (omega (arith, length_words bs 0 n))))
+    (cases_lt c n)

@@ -1,5 +1,5 @@
 -- The pages of a memory that is seen as a list of words.
-use Rattle.std.specs.Prelude.{◌≡◌, ◌≢◌, ◌≤◌, ℕ, ◌+◌, ◌*◌, ◌/◌, List, length, slice_index, slice_range}
+use Rattle.std.specs.Prelude.{◌≡◌, ◌≢◌, ◌≤◌, ◌<◌, ◌⊎◌, ℕ, ◌+◌, ◌*◌, ◌/◌, List, length, slice_index, slice_range}
 use Rattle.std.specs.Int.{w64, to_be_bytes}
 use Rattle.std.specs.List.{flat_map}
 
@@ -18,3 +18,7 @@ frame_bytes words p = flat_map (to_be_bytes w64) (page_words words p)
 -- every page other than p is the same
 abbrev pub SameElsewhere : ℕ → List ℕ → List ℕ → Type 0
 SameElsewhere p old new = (c : ℕ) → c / 512 ≢ p → slice_index new c ≡ slice_index old c
+
+-- the cell is none of the n cells from the first on
+abbrev pub IsOutside : (first n c : ℕ) → Type 0
+IsOutside first n c = (c < first) ⊎ (first + n ≤ c)

@@ -14,10 +14,11 @@ loop-run-preserved c =
     let total = λ (cell : ℕ). option_or (word_in_runs c.args.view.now.runs cell) (kept_word (joined c.args.words.now c.args.listed.now) cell) in
     record {
       rising = (_, here.1);
-      so_far = λ cell. next_run low _ c.next.new.self cell (kept_word now cell) _ (total cell) here (c.add_run.ensures cell) (subst (λ (l : List WordRun). option_or (word_in_runs l cell) (kept_word now cell) ≡ total cell) s.run (c.loop-run.invariant.so_far cell));
+      size = c.add_run.ensures.size ∙ c.loop-run.invariant.size;
+      so_far = λ cell. next_run low _ c.next.new.self cell (kept_word now cell) _ (total cell) here (c.add_run.ensures.kept cell) (subst (λ (l : List WordRun). option_or (word_in_runs l cell) (kept_word now cell) ≡ total cell) s.run (c.loop-run.invariant.so_far cell));
     }
 
-pub returns : goal.returns
-returns c = λ cell.
+pub returns-clause-kept : goal.returns-clause-kept
+returns-clause-kept c = λ cell.
     let now = joined c.loop-run.words c.loop-run.listed in
     sym (ap (λ (l : List WordRun). option_or (word_in_runs l cell) (kept_word now cell)) c.in-None.ensures.steps.0) ∙ c.loop-run.invariant.so_far cell
