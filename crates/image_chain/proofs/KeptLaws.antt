@@ -8,7 +8,7 @@ use Rattle.std.proofs.lemmas.Bool.Decides.{nat_tests}
 use Rattle.std.proofs.lemmas.List.{get_or-replicate, get_or_past, get_or-set_same, get_or-set_other, length-replicate}
 use Rattle.std.proofs.lemmas.Option.{slice_get_past, slice_get-get_or}
 use Rattle.page_frames.specs.Words.{words_of}
-use Rattle.page_frames.specs.Frame.{IsOutside}
+use Rattle.page_frames.specs.Frame.{IsElsewhere}
 use Rattle.page_frames.proofs.Words.{length_words}
 use Rattle.image_format.specs.Image.{WordRun, Image, AreRuns, word_in_run, word_in_runs}
 use Rattle.image_chain.specs.Memory.{memory, joined, kept_word}
@@ -50,7 +50,7 @@ one_more_marked now old first i c lt so_far = ⊎_elim
 
 -- the cells of a run are loaded, and listed
 pub run_loaded : (old new : List ℕ) (listed marked : List Bool) (bytes : List ℕ) (first count c : ℕ) → ((i : ℕ) → i < count → slice_index new (first + i) ≡ slice_index (words_of bytes count) i)
-    → ((k : ℕ) → IsOutside first count k → slice_index new k ≡ slice_index old k) → ((k : ℕ) → slice_index_or marked k false ≡ cond (among first count k) true (slice_index_or listed k false))
+    → ((k : ℕ) → IsElsewhere first count k → slice_index new k ≡ slice_index old k) → ((k : ℕ) → slice_index_or marked k false ≡ cond (among first count k) true (slice_index_or listed k false))
     → kept_word (joined new marked) c ≡ cond (among first count c) (Some (slice_index (words_of bytes count) (c - first))) (kept_word (joined old listed) c)
 run_loaded old new listed marked bytes first count c loaded same marks = ⊎_elim
     (λ low.

@@ -10,7 +10,7 @@ use Rattle.std.proofs.lemmas.List.{places, get_or-replicate, same_lists, get_or_
 use Rattle.std.proofs.Common.{length-drop, length-take-le, drop-cons}
 use borrow.Rule.Slice.PartMut.{put_mid}
 use Rattle.page_frames.specs.Words.{eight, word_at, words_from, words_of, fill_word}
-use Rattle.page_frames.specs.Frame.{IsOutside, frame_bytes, page_words}
+use Rattle.page_frames.specs.Frame.{IsElsewhere, frame_bytes, page_words}
 
 pub length_words : (bytes : List ℕ) (c n : ℕ) → length (words_from bytes c n) ≡ n
 length_words bytes c zero = refl
@@ -272,7 +272,7 @@ cells_loaded bs ys first count n i fits le l lt =
     let e : 0 + (first + i) ≡ first + i = omega arith in
     get_words new 0 n (first + i) (omega arith) ∙ ap (word_at new) e ∙ part_loaded bs ys first count i (omega arith) l lt ∙ sym (get_words ys 0 count i lt)
 
-part_kept : (bs ys : List ℕ) (first count c : ℕ) → (first + count) * 8 ≤ length bs → length ys ≡ count * 8 → IsOutside first count c → word_at (put_mid (first * 8) (count * 8) bs ys) (0 + c) ≡ word_at bs (0 + c)
+part_kept : (bs ys : List ℕ) (first count c : ℕ) → (first + count) * 8 ≤ length bs → length ys ≡ count * 8 → IsElsewhere first count c → word_at (put_mid (first * 8) (count * 8) bs ys) (0 + c) ≡ word_at bs (0 + c)
 part_kept bs ys first count c le l out =
     word_of (put_mid (first * 8) (count * 8) bs ys) (eight bs ((0 + c) * 8)) (0 + c) (λ j h. at_byte j h ∙ eight_get bs ((0 + c) * 8) j h) ∙ sym (word_eight bs (0 + c))
   where
@@ -282,7 +282,7 @@ part_kept bs ys first count c le l out =
         (λ high. mid_above (first * 8) (count * 8) ((0 + c) * 8 + j) bs ys (omega arith) l (omega arith))
         out
 
-pub cells_kept : (bs ys : List ℕ) (first count n c : ℕ) → n * 8 ≤ length bs → first + count ≤ n → length ys ≡ count * 8 → IsOutside first count c
+pub cells_kept : (bs ys : List ℕ) (first count n c : ℕ) → n * 8 ≤ length bs → first + count ≤ n → length ys ≡ count * 8 → IsElsewhere first count c
     → slice_index (words_of (put_mid (first * 8) (count * 8) bs ys) n) c ≡ slice_index (words_of bs n) c
 cells_kept bs ys first count n c fits le l out =
     let new = put_mid (first * 8) (count * 8) bs ys in

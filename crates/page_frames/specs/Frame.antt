@@ -20,5 +20,5 @@ abbrev pub SameElsewhere : ℕ → List ℕ → List ℕ → Type 0
 SameElsewhere p old new = (c : ℕ) → c / 512 ≢ p → slice_index new c ≡ slice_index old c
 
 -- the cell is none of the n cells from the first on
-abbrev pub IsOutside : (first n c : ℕ) → Type 0
-IsOutside first n c = (c < first) ⊎ (first + n ≤ c)
+abbrev pub IsElsewhere : (first n c : ℕ) → Type 0
+IsElsewhere first n c = (c < first) ⊎ (first + n ≤ c)

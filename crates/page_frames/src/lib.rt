@@ -9,7 +9,7 @@ ghost use Rattle.std.specs.Prelude.{◌≡◌, ℕ, take, drop, ◌+◌, ◌*◌
 ghost use Rattle.std.specs.Int.{w64, to_be_bytes, from_be_bytes};
 ghost use Rattle.std.specs.List.{flat_map};
 ghost use Rattle.page_frames.specs.Words.{eight, fill_word, words_of};
-ghost use Rattle.page_frames.specs.Frame.{HasPage, IsOutside, page_words, frame_bytes, SameElsewhere};
+ghost use Rattle.page_frames.specs.Frame.{HasPage, IsElsewhere, page_words, frame_bytes, SameElsewhere};
 ghost use borrow.Rule.Slice.PartMut.{put_mid};
 
 use ckpt_base::NoMemory;
@@ -119,7 +119,7 @@ impl Frames {
         requires cells { first + count ≤ length self.old }
         requires whole { length bytes.now ≡ 8 * count }
         ensures loaded { (i : ℕ) → i < count → slice_index self.new (first + i) ≡ slice_index (words_of bytes.now count) i }
-        ensures same { (c : ℕ) → IsOutside first count c → slice_index self.new c ≡ slice_index self.old c }
+        ensures same { (c : ℕ) → IsElsewhere first count c → slice_index self.new c ≡ slice_index self.old c }
         ensures size { length self.new ≡ length self.old }
     {
         write_part(
