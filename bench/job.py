@@ -1,10 +1,11 @@
 #!/usr/bin/env python3
-"""Times the large job of stencil.c by `run` without and with images, and by `restart`, beside C programs with the same calls on the disk, in turn.
+"""Times the images of a run, and `restart` of the large job of stencil.c, beside C programs with the same calls on the disk, in turn.
 
 Usage: bench/job.py PROGRAM [FOLDER..]     PROGRAM: the built `ckpt`. FOLDER: where stores are made, /dev/shm and /tmp where none is named.
 
-For each folder: what 50 images of 1,048,709 bytes cost above the run without one, against a C program that copies and writes such records with the same calls; and
-`restart` from 16 such images up to its first instruction, against a C program that reads the file. The least of each, wall and processor seconds."""
+For each folder: what 60 images of a megabyte cost above the run without one, against a C program that copies and writes such records with the same calls (images.c does next to
+nothing between them: the difference of two long runs would be noise); and `restart` from 16 such images up to its first instruction, against a C program that reads the file. The
+least of each, wall and processor milliseconds."""
 import os
 import shutil
 import subprocess
@@ -14,7 +15,9 @@ import time
 
 HERE = os.path.dirname(os.path.abspath(__file__))
 SOURCE = os.path.join(HERE, "stencil.c")
-TURNS = 7
+IMAGES = os.path.join(HERE, "images.c")
+COUNT = "60"
+TURNS = 11
 GREATEST = "4294967295"
 
 
@@ -56,9 +59,10 @@ def newest_step(program, store):
 def measure(program, yardstick, room, empty):
     least, store, beside = Least(), f"{room}/store", f"{room}/beside"
     for _ in range(TURNS):
-        least.add("run", timed([program, "run", SOURCE, empty, fresh(store), "--every", GREATEST], {0}))
-        least.add("images", timed([program, "run", SOURCE, empty, fresh(store), "--max", "64"], {0}))
-        least.add("c images", timed([yardstick, "images", fresh(beside), "50"], {0}))
+        least.add("run", timed([program, "run", IMAGES, empty, fresh(store), "--every", GREATEST], {0}))
+        least.add("images", timed([program, "run", IMAGES, empty, fresh(store), "--max", "64"], {0}))
+        least.add("c run", timed([yardstick, "images", fresh(beside), "0"], {0}))
+        least.add("c images", timed([yardstick, "images", fresh(beside), COUNT], {0}))
     sixteen = f"{room}/sixteen"
     step = steps_of_sixteen(program, fresh(sixteen), empty)
     for _ in range(TURNS):
@@ -79,9 +83,10 @@ def steps_of_sixteen(program, store, empty):
 
 def tell(least):
     for kind, name in enumerate(("wall", "processor")):
-        run, images, c_images = (least.of(it, kind) for it in ("run", "images", "c images"))
+        run, images, c_run, c_images = (1000 * least.of(it, kind) for it in ("run", "images", "c run", "c images"))
         restart, c_read, start = (least.of(it, kind) for it in ("restart", "c read", "start"))
-        print(f"  {name}: run {run:.3f} s, with 50 images {images:.3f} s: {images - run:.3f} s above, C {c_images:.3f} s, ratio {(images - run) / c_images:.2f}")
+        above, c_above = images - run, c_images - c_run
+        print(f"  {name}: {COUNT} images {above:.1f} ms above a run of {run:.1f} ms, C {c_above:.1f} ms, ratio {above / c_above:.2f}")
         print(f"  {name}: restart {restart * 1000:.1f} ms (reading the source alone {start * 1000:.1f} ms), C reads in {c_read * 1000:.1f} ms, ratio {restart / c_read:.2f}")
 
 
