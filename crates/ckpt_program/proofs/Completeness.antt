@@ -1,5 +1,5 @@
 -- Where the files are as they should be and nothing fails, a command tells what is meant.
-use Rattle.std.proofs.Common.{◌≡◌, ◌⊎◌, ◌++◌, ◌∙◌, refl, sym, ap, subst, inl, inr, ⊎_elim, ℕ, List, IsTrue, Option, Some, None, Result, Ok, Err}
+use Rattle.std.proofs.Common.{◌≡◌, ◌⊎◌, ◌++◌, ◌∙◌, refl, sym, ap, subst, inl, inr, ⊎_elim, ℕ, List, [], IsTrue, Option, Some, None, Result, Ok, Err}
 use Rattle.ckpt_base.specs.Faults.{Rose}
 use Rattle.ckpt_base.specs.Run as run
 use Rattle.ckpt_base.specs.Shelf.{ShelfView}
@@ -8,7 +8,7 @@ use Rattle.ckpt_base.specs.declared.ending.Ending.{Ending}
 use Rattle.c_tree.specs.declared.resolved.Resolved.{Resolved}
 use Rattle.c_tree.specs.Meaning.{meaning}
 use Rattle.command_words.specs.declared.command.Command.{Command}
-use Rattle.command_words.specs.declared.command.Command.TheVariants.{Plain, Check, Compile, Report, Run, Restart, Images, Coalesce, Clear, Why}
+use Rattle.command_words.specs.declared.command.Command.TheVariants.{Plain, Check, Compile, Report, Run, Restart, Images, Coalesce, Clear, Why, Drill, Generate}
 use Rattle.ckpt_program.specs.declared.done.Counts.{Counts}
 use Rattle.ckpt_program.specs.declared.done.Done.{Done}
 use Rattle.ckpt_program.specs.declared.done.Done.TheVariants as done
@@ -30,6 +30,9 @@ use Rattle.ckpt_program.specs.Told.{Tells}
 use Rattle.ckpt_program.specs.LifeStages.{to_begin, to_go_on}
 use Rattle.ckpt_program.specs.Top.{HasProgram, Says, SaysWhy, Complete}
 use Rattle.ckpt_program.proofs.ShelfReady.{IsCarriedOut, with_source, with_both, source_found, source_not_failing}
+use Rattle.generated_program.specs.Generated.{generated, generated_line}
+use Rattle.ckpt_program.specs.Drill.{default_settings, stops_of, to_drill}
+use Rattle.ckpt_program.proofs.Drilling.{drill_ready, drill_said, generate_ready}
 use Rattle.ckpt_program.specs.Upkeep.{TellsCleared}
 use Rattle.ckpt_program.proofs.Ordering.{TellsOf, with_joining, joining_said, with_clearing, clearing_said}
 use Rattle.ckpt_program.proofs.StoreReady.{Accepts, TellsChain, with_store, with_life, begun_said, gone_on_said}
@@ -128,3 +131,8 @@ complete law words (Some (Clear dir)) v w disk disk_new k l result o stays came 
 complete law words (Some (Why source exclude cell)) v w disk disk_new k l result o stays came told = λ job ready well.
     explained_said job.tree exclude cell k l result o (whole_text o k l result told well.console_tells well.console_count)
     (explained_source (word_at words source) exclude cell v w job.tree o well.shelf_tells well.shelf_count ready came)
+complete law words (Some (Drill source input settings fill stops)) v w disk disk_new k l result o stays came told = λ job ready well.
+    let of = drill_ready (word_at words source) (word_at words input) (to_drill settings fill) stops v w job.tree job.input o well.shelf_tells well.shelf_count ready.0 ready.1 came in
+    drill_said [] (to_drill settings fill) stops job.tree of.0 job.input o k l result of.1 (whole_text o k l result told well.console_tells well.console_count)
+complete law words (Some (Generate n)) v w disk disk_new k l result o stays came told = λ job ready well.
+    drill_said (generated_line n) (to_drill default_settings 0) (stops_of n) job.tree (generated n) [] o k l result (generate_ready n job.tree o ready came) (whole_text o k l result told well.console_tells well.console_count)

@@ -4,7 +4,7 @@ use Rattle.ckpt_base.specs.Sink.{SinkView}
 use Rattle.ckpt_base.specs.declared.ending.Ending.{Ending}
 use Rattle.ckpt_base.specs.declared.ending.Ending.TheVariants as ending
 use Rattle.command_words.specs.declared.command.Command.{Command}
-use Rattle.command_words.specs.declared.command.Command.TheVariants.{Plain, Check, Compile, Report, Run, Restart, Images, Coalesce, Clear, Why}
+use Rattle.command_words.specs.declared.command.Command.TheVariants.{Plain, Check, Compile, Report, Run, Restart, Images, Coalesce, Clear, Why, Drill, Generate}
 use Rattle.disk_model.specs.Store.{Store}
 use Rattle.disk_model.specs.View.{View}
 use Rattle.disk_model.specs.Plate.{Plate, plate}
@@ -112,6 +112,8 @@ lasts_refused words (Some (Images dir)) old new v w o result came keeps stays fi
 lasts_refused words (Some (Coalesce dir)) old new v w o result came keeps stays fixed at_hand not = lasts_ordered o v w result (joining_at_hand (plate v) (plate w) o came) keeps fixed at_hand not
 lasts_refused words (Some (Clear dir)) old new v w o result came keeps stays fixed at_hand not = lasts_ordered o v w result (clearing_at_hand (plate v) (plate w) o came) keeps fixed at_hand not
 lasts_refused words (Some (Why source exclude cell)) old new v w o result came keeps stays fixed at_hand not = stays_lasting v w (stays tt)
+lasts_refused words (Some (Drill source input settings fill stops)) old new v w o result came keeps stays fixed at_hand not = stays_lasting v w (stays tt)
+lasts_refused words (Some (Generate functions)) old new v w o result came keeps stays fixed at_hand not = stays_lasting v w (stays tt)
 lasts_refused words (Some (Run source input dir settings)) old new v w o result came keeps stays fixed at_hand not =
     lasts_lived (word_at words source) (word_at words input) (to_begin settings) old new v w o result came keeps fixed at_hand not
 lasts_refused words (Some (Restart source input dir settings fill)) old new v w o result came keeps stays fixed at_hand not =
@@ -120,7 +122,7 @@ lasts_refused words (Some (Restart source input dir settings fill)) old new v w 
 -- ---- the headline
 
 -- one that was stopped has not the status of a run
-not_ending : (e : Stop) → IsEnding (status_of (Err e)) → ⊥
+pub not_ending : (e : Stop) → IsEnding (status_of (Err e)) → ⊥
 not_ending NoMemory is = ⊎_elim (λ h. omega (arith, h)) (λ more. ⊎_elim (λ h. omega (arith, h)) (λ h. omega (arith, h)) more) is
 not_ending (Because cause.Usage) is = ⊎_elim (λ h. omega (arith, h)) (λ more. ⊎_elim (λ h. omega (arith, h)) (λ h. omega (arith, h)) more) is
 not_ending (Because (cause.Refused r)) is = ⊎_elim (λ h. omega (arith, h)) (λ more. ⊎_elim (λ h. omega (arith, h)) (λ h. omega (arith, h)) more) is
@@ -135,10 +137,10 @@ not_ending (Because (cause.Behind bound step)) is = ⊎_elim (λ h. omega (arith
 not_ending (Because (cause.NotAnExclude n)) is = ⊎_elim (λ h. omega (arith, h)) (λ more. ⊎_elim (λ h. omega (arith, h)) (λ h. omega (arith, h)) more) is
 not_ending (Because (cause.NotACell n)) is = ⊎_elim (λ h. omega (arith, h)) (λ more. ⊎_elim (λ h. omega (arith, h)) (λ h. omega (arith, h)) more) is
 
-stopped_status : (e : Stop) (k l : SinkView) (result : ℕ) → Tells (Err e) k l result → result ≡ status_of (Err e)
+pub stopped_status : (e : Stop) (k l : SinkView) (result : ℕ) → Tells (Err e) k l result → result ≡ status_of (Err e)
 stopped_status e k l result tells = ⊎_elim (λ all. all.status_is) (λ part. part.status_is) tells
 
-not_seven : IsEnding 7 → ⊥
+pub not_seven : IsEnding 7 → ⊥
 not_seven is = ⊎_elim (λ h. omega (arith, h)) (λ more. ⊎_elim (λ h. omega (arith, h)) (λ h. omega (arith, h)) more) is
 
 -- a life that was told, with the status of a run
@@ -178,6 +180,8 @@ ends_as_source words (Some (Images dir)) shelf v w o k l result came tells = tt
 ends_as_source words (Some (Coalesce dir)) shelf v w o k l result came tells = tt
 ends_as_source words (Some (Clear dir)) shelf v w o k l result came tells = tt
 ends_as_source words (Some (Why source exclude cell)) shelf v w o k l result came tells = tt
+ends_as_source words (Some (Drill source input settings fill stops)) shelf v w o k l result came tells = tt
+ends_as_source words (Some (Generate functions)) shelf v w o k l result came tells = tt
 
 -- nothing was told of a life for want of memory
 pub none_told : (words : List (List ℕ)) (c : Option Command) (shelf : Sight) (v w : View) (e : Stop) → ToldBy words c shelf v (Err e) w
@@ -192,6 +196,8 @@ none_told words (Some (Images dir)) shelf v w e = tt
 none_told words (Some (Coalesce dir)) shelf v w e = tt
 none_told words (Some (Clear dir)) shelf v w e = tt
 none_told words (Some (Why source exclude cell)) shelf v w e = tt
+none_told words (Some (Drill source input settings fill stops)) shelf v w e = tt
+none_told words (Some (Generate functions)) shelf v w e = tt
 
 pub output_lasting : (c : Option Command) (w : View) (o : Result Done Stop) (k l : SinkView) (result : ℕ) → (IsLife c → OnOk o (OutputLasts w)) → Tells o k l result → LastsOutput c result w
 output_lasting c w (Ok d) k l result lasts tells = λ lives ending. lasts lives
@@ -219,6 +225,8 @@ in_order words (Some (Check source)) shelf v w o k l result came tells = tt
 in_order words (Some (Compile source)) shelf v w o k l result came tells = tt
 in_order words (Some (Report source)) shelf v w o k l result came tells = tt
 in_order words (Some (Why source exclude cell)) shelf v w o k l result came tells = tt
+in_order words (Some (Drill source input settings fill stops)) shelf v w o k l result came tells = tt
+in_order words (Some (Generate functions)) shelf v w o k l result came tells = tt
 in_order words (Some (Images dir)) shelf v w o k l result came tells = tt
 in_order words (Some (Run source input dir settings)) shelf v w o k l result came tells = tt
 in_order words (Some (Restart source input dir settings fill)) shelf v w o k l result came tells = tt

@@ -15,4 +15,5 @@ mod SourceRead
 mod ShelfReady
 mod StoreReady
 mod Ordering
+mod Drilling
 mod Completeness

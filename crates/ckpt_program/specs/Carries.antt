@@ -1,12 +1,13 @@
 -- What the words come to: a row each.
 use Rattle.std.specs.Prelude.{◌≡◌, ℕ, List, [], Option, Some, None, Ok, Err, slice_index_or}
 use Rattle.command_words.specs.declared.command.Command.{Command}
-use Rattle.command_words.specs.declared.command.Command.TheVariants.{Plain, Check, Compile, Report, Run, Restart, Images, Coalesce, Clear, Why}
+use Rattle.command_words.specs.declared.command.Command.TheVariants.{Plain, Check, Compile, Report, Run, Restart, Images, Coalesce, Clear, Why, Drill, Generate}
 use Rattle.disk_model.specs.Plate.{Plate}
 use Rattle.ckpt_program.specs.Sight.{Sight}
 use Rattle.ckpt_program.specs.Stage.{Stage}
 use Rattle.ckpt_program.specs.Rows as row
 use Rattle.ckpt_program.specs.LifeRow as life
+use Rattle.ckpt_program.specs.Drill as drill
 use Rattle.ckpt_program.specs.LifeStages.{to_begin, to_go_on}
 use Rattle.ckpt_program.specs.declared.done.Done.{Done}
 use Rattle.ckpt_program.specs.declared.stop.Cause.TheVariants as cause
@@ -31,6 +32,8 @@ Carries words (Images dir) old new disk disk_new = row.Images disk disk_new
 Carries words (Coalesce dir) old new disk disk_new = row.Coalesce disk disk_new
 Carries words (Clear dir) old new disk disk_new = row.Clear disk disk_new
 Carries words (Why source exclude cell) old new disk disk_new = row.Why (word_at words source) exclude cell old new
+Carries words (Drill source input settings fill stops) old new disk disk_new = drill.Drill (word_at words source) (word_at words input) (drill.to_drill settings fill) stops old new
+Carries words (Generate functions) old new disk disk_new = drill.Generate functions
 
 abbrev pub CarriesSome : (words : List (List ℕ)) → Option Command → (old new : Sight) (disk disk_new : Plate) → Stage Done
 CarriesSome words None old new disk disk_new = NoCommand

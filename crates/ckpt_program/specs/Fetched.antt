@@ -8,10 +8,11 @@ use Rattle.ckpt_program.specs.declared.stop.Document.TheVariants as document
 use Rattle.ckpt_program.specs.declared.intake.FetchFault.{FetchFault}
 use Rattle.ckpt_program.specs.declared.intake.FetchFault.TheVariants as fault
 
--- the most bytes of a source, and of an input
+-- the most bytes of a source, of an input, and of the output of a drill
 abbrev pub limit_of : Document → ℕ
 limit_of document.Source = 262144
 limit_of document.Input = 16777216
+limit_of document.Output = 16777216
 
 -- the shelf gives these bytes under the name: those of its file where it tells its files, and else any
 abbrev pub Gives : Sight → List ℕ → List ℕ → Type 0

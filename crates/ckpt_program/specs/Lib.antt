@@ -26,6 +26,8 @@ pub mod Why
 pub mod Rows
 -- what the commands that live come to
 pub mod LifeRow
+-- what the commands that drill come to
+pub mod Drill
 -- what the words come to
 pub mod Carries
 -- the status and the text of what a command has come to
@@ -34,5 +36,7 @@ pub mod Texts
 pub mod Told
 -- the main theorem
 pub mod Headline
+-- what the commands that drill tell of a source
+pub mod Drilled
 -- the clauses of the top call that name no outcome
 pub mod Top

@@ -99,6 +99,7 @@ fixed_line cause.DiskFault = Some (codes "disk fault\n")
 fixed_line cause.ShelfFault = Some (codes "shelf fault\n")
 fixed_line (cause.TooLarge document.Source) = Some (codes "too large: source\n")
 fixed_line (cause.TooLarge document.Input) = Some (codes "too large: input\n")
+fixed_line (cause.TooLarge document.Output) = Some (codes "too large: output\n")
 fixed_line c = None
 
 -- the line of one that says more

@@ -1,5 +1,5 @@
 -- The clauses of the top call: the one on its outcome, those that name none, and the one on completeness.
-use Rattle.std.specs.Prelude.{◌≡◌, ◌<◌, ◌≤◌, ◌-◌, ◌^◌, ◌⊎◌, ◌++◌, ℕ, IsTrue, List, length, codes, Option, Some, None, Result, Ok}
+use Rattle.std.specs.Prelude.{◌≡◌, ◌<◌, ◌≤◌, ◌-◌, ◌^◌, ◌⊎◌, ◌++◌, ℕ, IsTrue, List, [], length, codes, Option, Some, None, Result, Ok}
 use Rattle.ckpt_base.specs.Faults.{Rose}
 use Rattle.ckpt_base.specs.Run as run
 use Rattle.ckpt_base.specs.Shelf.{ShelfView, file_named}
@@ -8,7 +8,7 @@ use Rattle.c_tree.specs.declared.resolved.Resolved.{Resolved}
 use Rattle.c_tree.specs.Meaning.{meaning}
 use Rattle.command_words.specs.Words.{command_of}
 use Rattle.command_words.specs.declared.command.Command.{Command}
-use Rattle.command_words.specs.declared.command.Command.TheVariants.{Plain, Check, Compile, Report, Run, Restart, Images, Coalesce, Clear, Why}
+use Rattle.command_words.specs.declared.command.Command.TheVariants.{Plain, Check, Compile, Report, Run, Restart, Images, Coalesce, Clear, Why, Drill, Generate}
 use Rattle.disk_model.specs.Store.{Store}
 use Rattle.disk_model.specs.View.{View}
 use Rattle.disk_model.specs.Plate.{plate}
@@ -23,6 +23,9 @@ use Rattle.ckpt_runner.specs.Opening.{HasChain}
 use Rattle.ckpt_program.specs.DiskStages.{OnlyLasting}
 use Rattle.ckpt_program.specs.LifeStages.{OutputLasts}
 use Rattle.ckpt_program.specs.Headline.{IsSourceIn, SourceOf, StandThroughout}
+use Rattle.ckpt_program.specs.Drilled.{SaysDrill}
+use Rattle.generated_program.specs.Generated.{generated}
+use Rattle.command_words.specs.Words.{most_steps}
 use Rattle.ckpt_program.specs.Sight.{Sight, sight}
 use Rattle.ckpt_program.specs.Fetched.{limit_of}
 use Rattle.ckpt_program.specs.Stage.{Comes}
@@ -157,6 +160,8 @@ IsReady words (Some (Images dir)) shelf disk disk_new job = HasChainOf disk disk
 IsReady words (Some (Coalesce dir)) shelf disk disk_new job = HasChainOf disk disk_new job.chain
 IsReady words (Some (Clear dir)) shelf disk disk_new job = Rose disk.faults disk_new.faults → ⊥
 IsReady words (Some (Why source exclude cell)) shelf disk disk_new job = HasProgram (word_at words source) shelf job.tree
+IsReady words (Some (Drill source input settings fill stops)) shelf disk disk_new job = HasProgram (word_at words source) shelf job.tree × HasFile document.Input (word_at words input) shelf job.input
+IsReady words (Some (Generate n)) shelf disk disk_new job = IsAccepted (generated n) job.tree
 
 -- the store has a chain, and the line tells its newest image
 abbrev pub TellsOccupied : Store → (text : List ℕ) → Type 0
@@ -181,6 +186,8 @@ Says (Some (Images dir)) job disk status text = (status ≡ 0) × (text ≡ chai
 Says (Some (Coalesce dir)) job disk status text = (status ≡ 0) × (c : Coalesced) × FindsRecords c disk.seen × (text ≡ joined_text c)
 Says (Some (Clear dir)) job disk status text = (status ≡ 0) × (text ≡ codes "cleared\n")
 Says (Some (Why source exclude cell)) job disk status text = SaysWhy job.tree exclude cell status text
+Says (Some (Drill source input settings fill stops)) job disk status text = SaysDrill job.tree job.input settings.until status text
+Says (Some (Generate n)) job disk status text = SaysDrill job.tree [] most_steps status text
 
 -- Where the files and the store are as they should be and no count rose, exactly what is meant is told, or that there is no memory.
 abbrev pub Complete : (words : List (List ℕ)) → Option Command → (shelf shelf_new : ShelfView) (disk disk_new : View) (console console_new : SinkView) → (result : ℕ) → Type 0

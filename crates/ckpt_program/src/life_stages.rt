@@ -23,8 +23,8 @@ use one_life::{Lived, live};
 use sqlite_items::Boxed;
 use std::alloc::Global;
 
-// All calls for an image are made at once.
-const PACE: &[u32] = &[0];
+/// All calls for an image are made at once.
+pub const PACE: &[u32] = &[0];
 
 /// How a command asks for a life.
 #[derive(Clone, Copy)]

@@ -61,8 +61,8 @@ pub fn live_job<H: Shelf, D: Disk>(
     live_with(alloc, disk, &job, dir, asked)
 }
 
-// Reads what is to be run.
-fn read_job<H: Shelf>(
+/// Reads what is to be run.
+pub fn read_job<H: Shelf>(
     alloc: Global,
     shelf: &mut H,
     source_name: &Text,

@@ -15,6 +15,10 @@ mod compile;
 mod console;
 mod disk_stages;
 mod done;
+mod drill;
+#[cfg(test)]
+mod drill_rows;
+mod drill_stages;
 #[cfg(test)]
 mod graph_tests;
 mod graphs;

@@ -12,13 +12,15 @@ use ckpt_base::{Failed, NoMemory};
 use disk_model::DiskFile;
 use std::alloc::{AllocError, Global};
 
-/// A file that a command reads.
+/// What has a limit: a file that a command reads, or the output of a drill.
 #[derive(Clone, Copy)]
 pub enum Document {
     /// At most 262,144 bytes.
     Source,
     /// At most 16,777,216 bytes.
     Input,
+    /// What a drill writes, at most 16,777,216 bytes.
+    Output,
 }
 
 impl Document {
@@ -28,7 +30,7 @@ impl Document {
     {
         match self {
             Document::Source => 262_144,
-            Document::Input => 16_777_216,
+            Document::Input | Document::Output => 16_777_216,
         }
     }
 }
@@ -44,7 +46,7 @@ pub enum Cause {
     DiskFault,
     /// The shelf failed, or lacks a file that the words name.
     ShelfFault,
-    /// A file is longer than its limit.
+    /// A file, or the output of a drill, is longer than its limit.
     TooLarge(Document),
     /// A file of the store is damaged.
     Damaged {
@@ -129,6 +131,7 @@ impl Cause {
             Cause::ShelfFault => Some(b"shelf fault\n"),
             Cause::TooLarge(Document::Source) => Some(b"too large: source\n"),
             Cause::TooLarge(Document::Input) => Some(b"too large: input\n"),
+            Cause::TooLarge(Document::Output) => Some(b"too large: output\n"),
             _ => None,
         }
     }

@@ -1,5 +1,6 @@
 use crate::store_rows::{FILES, RESTARTS, RUNS, Step, Store, UPKEEP, USAGE};
 use crate::top::ckpt;
+use crate::drill_rows::DRILLS;
 use crate::why_rows::REASONS;
 use ckpt_base::{Bytes, MemShelf, MemSink, Text};
 use disk_model::{Disk, DiskFile, MemDisk};
@@ -96,6 +97,11 @@ fn words_of_lives(rt: HostRuntime) -> Result<(), Fail> {
 #[test]
 fn reasons_for_cells(rt: HostRuntime) -> Result<(), Fail> {
     hold(&rt, rt.alloc(), REASONS.as_slice())
+}
+
+#[test]
+fn lives_are_drilled(rt: HostRuntime) -> Result<(), Fail> {
+    hold(&rt, rt.alloc(), DRILLS.as_slice())
 }
 
 // The calls on the disk with these numbers fail, each in a run of its own: the run answers 5, and a restart over the same disk ends as the run would have. A run that meets no failure is the last.

@@ -10,11 +10,13 @@ ghost use Rattle.ckpt_program.specs.DiskStages.{CalmDisk, Stays};
 ghost use Rattle.ckpt_program.specs.LifeStages.{KeepsRefused, OutputLasts};
 ghost use Rattle.ckpt_program.specs.Carries.{word_at, Carries, CarriesSome};
 ghost use Rattle.ckpt_program.specs.Headline.{EndsAsSource, PutsInOrder, SourceOf, StandThroughout, ToldBy};
+ghost use Rattle.ckpt_program.specs.Drilled.{DrillsAsSource};
 ghost use Rattle.ckpt_program.specs.Top.{Answers, Blames, IsQuiet, KeepsContents, AnyMoment, NoImageLost, LeavesContents, IsLife, LastsOutput, Complete};
 
 use crate::check::check;
 use crate::compile::compile;
 use crate::done::Done;
+use crate::drill::{drill_source, generate};
 use crate::images::images;
 use crate::life_stages::Asked;
 use crate::lives::live_job;
@@ -53,6 +55,7 @@ pub fn ckpt<H: Shelf, D: Disk, K: Sink>(
     ensures any_moment { AnyMoment words.now.items (command_of words.now.items) (sight (H.view shelf.old)) (D.view disk.old) (D.view disk.new) }
     ensures no_image_lost { NoImageLost (command_of words.now.items) (D.view disk.old) (D.view disk.new) }
     ensures in_order { PutsInOrder (command_of words.now.items) (D.view disk.old) (D.view disk.new) (K.view console.old) (K.view console.new) result }
+    ensures drills { DrillsAsSource words.now.items (command_of words.now.items) (sight (H.view shelf.old)) (K.view console.old) (K.view console.new) result }
     ensures untouched { LeavesContents (command_of words.now.items) result (D.view disk.old) (D.view disk.new) }
     ensures lasting { LastsOutput (command_of words.now.items) result (D.view disk.new) }
     ensures blamed { Blames 6 (H.view shelf.old).faults (H.view shelf.new).faults result }
@@ -169,6 +172,28 @@ fn carry<H: Shelf, D: Disk>(
             exclude,
             cell,
         } => why(alloc, shelf, word(words, source), exclude, cell),
+        Command::Drill {
+            source,
+            input,
+            settings,
+            fill,
+            stops,
+        } => {
+            let asked = Asked {
+                mode: Mode::Run,
+                settings,
+                fill,
+            };
+            drill_source(
+                alloc,
+                shelf,
+                word(words, source),
+                word(words, input),
+                asked,
+                stops.as_slice(),
+            )
+        }
+        Command::Generate { functions } => generate(alloc, functions),
     }
 }
 

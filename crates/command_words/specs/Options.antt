@@ -2,7 +2,7 @@
 use Rattle.std.specs.Prelude.{ℕ, List, [], ◌∷◌, Option, Some, None, Bool, true, false, ◌&&◌, ◌==◌, codes, bytes_eq, is_none, if◌then◌else◌}
 use Rattle.command_words.specs.Numbers.{number, within}
 use Rattle.command_words.specs.declared.options.Name.{Name}
-use Rattle.command_words.specs.declared.options.Name.TheVariants.{Until, Every, Max, Pace, Fill}
+use Rattle.command_words.specs.declared.options.Name.TheVariants.{Until, Every, Max, Pace, Fill, Stops}
 
 abbrev pub Word : Type 0
 Word = List ℕ
@@ -19,6 +19,7 @@ word_of Every = codes "--every"
 word_of Max = codes "--max"
 word_of Pace = codes "--pace"
 word_of Fill = codes "--fill"
+word_of Stops = codes "--stops"
 
 -- which of these names a word is
 abbrev pub name_in : List Name → Word → Option Name

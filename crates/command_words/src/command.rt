@@ -1,3 +1,5 @@
+use crate::stops::Stops;
+
 /// How a life is run.
 #[derive(Clone, Copy, Debug, PartialEq, Eq)]
 pub struct Settings {
@@ -10,7 +12,7 @@ pub struct Settings {
 }
 
 /// What the words of a command line ask for. A file, or the directory of a store, is named by the place of its word, counted from 0.
-#[derive(Clone, Copy, Debug)]
+#[derive(Debug, Drop)]
 pub enum Command {
     /// `plain SRC INPUT`: evaluates the source on the input, in at most `until` steps.
     Plain {
@@ -64,5 +66,20 @@ pub enum Command {
         /// The number of the EXCLUDE_HERE, 1 to 64.
         exclude: u16,
         cell: u32,
+    },
+    /// `drill SRC INPUT`: runs the source on the input through a list of stops, on a disk in memory.
+    Drill {
+        source: usize,
+        input: usize,
+        settings: Settings,
+        /// The byte that memory holds which no image lists.
+        fill: u8,
+        /// Where its lives are stopped, one each, before the last one.
+        stops: Stops,
+    },
+    /// `generate N`: drills the generated program of so many functions.
+    Generate {
+        /// How many, 1 to 1,000.
+        functions: u16,
     },
 }

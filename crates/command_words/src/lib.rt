@@ -8,6 +8,8 @@ mod command;
 mod numbers;
 mod options;
 mod reading;
+mod stops;
 
 pub use command::{Command, Settings};
 pub use reading::read_words;
+pub use stops::{Stop, Stops};

@@ -19,6 +19,8 @@ pub enum Name {
     Pace,
     /// The byte that memory holds which no image lists.
     Fill,
+    /// Where the lives of a drill are stopped.
+    Stops,
 }
 
 impl Name {
@@ -32,6 +34,7 @@ impl Name {
             Name::Max => b"--max",
             Name::Pace => b"--pace",
             Name::Fill => b"--fill",
+            Name::Stops => b"--stops",
         }
     }
 }

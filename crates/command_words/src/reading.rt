@@ -1,60 +1,88 @@
 //! The public call: words to the command that they are.
 
-ghost use Rattle.std.specs.Prelude.{◌≡◌, ◌+◌, length, IfOk, IfSome};
+ghost use Rattle.std.specs.Prelude.{◌≡◌, ◌+◌, length, IfOk, IfSome, false, bytes_eq, codes};
+ghost use Rattle.command_words.specs.Options.{value_of};
+ghost use Rattle.command_words.specs.Stops.{stops_or_none};
+ghost use Rattle.command_words.specs.declared.options.Name.TheVariants as Name;
 ghost use Rattle.command_words.specs.Words as spec;
 ghost use Rattle.command_words.specs.Words.{command_of, steps_of, HasPlaces, HasRanges, InRange};
 
 use crate::command::{Command, Settings};
 use crate::numbers::number_in;
-use crate::options::{Name, are_options, is_option, number_or, number_within};
+use crate::options::{Name, are_options, is_option, number_or, number_within, value_of};
+use crate::stops::{Stops, listed_stops};
 use ckpt_base::{NoMemory, Text};
 use std::alloc::Global;
 
 /// The command that the words are; none exactly where they are no command.
 ///
-/// An option that is not given has its default: `--until` the greatest number of 64 bits, `--every` 1, `--max` 16, `--fill` 0, and `--pace` 0, its one value.
+/// An option that is not given has its default: `--until` the greatest number of 64 bits, `--every` 1, `--max` 16, `--fill` 0, `--pace` 0, its one value, and
+/// `--stops` no stop.
 pub fn read_words(alloc: Global, words: &Vec<Text>) -> Result<Option<Command>, NoMemory>
     ensures answer { IfOk result (λ c. c ≡ command_of words.now.items) }
     // each file is one of the words
     ensures places { IfOk result (λ c. IfSome c (λ command. HasPlaces command (length words.now.items))) }
     ensures ranges { IfOk result (λ c. IfSome c HasRanges) }
 {
-    Ok(command(words))
+    command(alloc, words)
 }
 
 // The command that the words are.
-fn command(words: &[Text]) -> Option<Command>
-    ensures answer { result ≡ command_of words.now }
-    ensures places { IfSome result (λ command. HasPlaces command (length words.now)) }
-    ensures ranges { IfSome result HasRanges }
+fn command(alloc: Global, words: &[Text]) -> Result<Option<Command>, NoMemory>
+    ensures answer { IfOk result (λ c. c ≡ command_of words.now) }
+    ensures places { IfOk result (λ c. IfSome c (λ command. HasPlaces command (length words.now))) }
+    ensures ranges { IfOk result (λ c. IfSome c HasRanges) }
 {
     match words {
-        [] => None,
-        [name, words @ ..] => {
-            if name.as_bytes() == b"plain".as_slice() {
-                plain(words)
-            } else if name.as_bytes() == b"check".as_slice() {
-                of_one(words, Command::Check { source: 1 })
-            } else if name.as_bytes() == b"compile".as_slice() {
-                of_one(words, Command::Compile { source: 1 })
-            } else if name.as_bytes() == b"report".as_slice() {
-                of_one(words, Command::Report { source: 1 })
-            } else if name.as_bytes() == b"run".as_slice() {
-                run(words)
-            } else if name.as_bytes() == b"restart".as_slice() {
-                restart(words)
-            } else if name.as_bytes() == b"images".as_slice() {
-                of_one(words, Command::Images { dir: 1 })
-            } else if name.as_bytes() == b"coalesce".as_slice() {
-                of_one(words, Command::Coalesce { dir: 1 })
-            } else if name.as_bytes() == b"clear".as_slice() {
-                of_one(words, Command::Clear { dir: 1 })
-            } else if name.as_bytes() == b"why".as_slice() {
-                why(words)
-            } else {
-                None
-            }
-        }
+        [] => Ok(None),
+        [name, words @ ..] => named(alloc, name.as_bytes(), words),
+    }
+}
+
+// The command of this name, with the words behind it.
+fn named(alloc: Global, name: &[u8], words: &[Text]) -> Result<Option<Command>, NoMemory>
+    ensures answer { IfOk result (λ c. c ≡ spec.command_named name.now words.now) }
+    ensures places { IfOk result (λ c. IfSome c (λ command. HasPlaces command (length words.now + 1))) }
+    ensures ranges { IfOk result (λ c. IfSome c HasRanges) }
+{
+    if name == b"drill".as_slice() {
+        drill(alloc, words)
+    } else {
+        Ok(without_stops(name, words))
+    }
+}
+
+// The command of this name, with the words behind it, where it has no list of stops.
+fn without_stops(name: &[u8], words: &[Text]) -> Option<Command>
+    requires other { bytes_eq name.now (codes "drill") ≡ false }
+    ensures answer { result ≡ spec.command_named name.now words.now }
+    ensures places { IfSome result (λ command. HasPlaces command (length words.now + 1)) }
+    ensures ranges { IfSome result HasRanges }
+{
+    if name == b"plain".as_slice() {
+        plain(words)
+    } else if name == b"check".as_slice() {
+        of_one(words, Command::Check { source: 1 })
+    } else if name == b"compile".as_slice() {
+        of_one(words, Command::Compile { source: 1 })
+    } else if name == b"report".as_slice() {
+        of_one(words, Command::Report { source: 1 })
+    } else if name == b"run".as_slice() {
+        run(words)
+    } else if name == b"restart".as_slice() {
+        restart(words)
+    } else if name == b"images".as_slice() {
+        of_one(words, Command::Images { dir: 1 })
+    } else if name == b"coalesce".as_slice() {
+        of_one(words, Command::Coalesce { dir: 1 })
+    } else if name == b"clear".as_slice() {
+        of_one(words, Command::Clear { dir: 1 })
+    } else if name == b"why".as_slice() {
+        why(words)
+    } else if name == b"generate".as_slice() {
+        generate(words)
+    } else {
+        None
     }
 }
 
@@ -168,6 +196,77 @@ fn why(words: &[Text]) -> Option<Command>
                 source: 1,
                 exclude: exclude as u16,
                 cell: cell as u32,
+            })
+        }
+        _ => None,
+    }
+}
+
+// `drill` and the words behind it.
+fn drill(alloc: Global, words: &[Text]) -> Result<Option<Command>, NoMemory>
+    ensures answer { IfOk result (λ c. c ≡ spec.drill_of words.now) }
+    ensures places { IfOk result (λ c. IfSome c (λ command. HasPlaces command (length words.now + 1))) }
+    ensures ranges { IfOk result (λ c. IfSome c HasRanges) }
+{
+    match words {
+        [source, input, options @ ..] if !is_option(source) && !is_option(input) => {
+            let Some((settings, fill)) = drill_settings(options) else {
+                return Ok(None);
+            };
+            match stops(alloc, options)? {
+                Some(stops) => Ok(Some(Command::Drill {
+                    source: 1,
+                    input: 2,
+                    settings,
+                    fill,
+                    stops,
+                })),
+                None => Ok(None),
+            }
+        }
+        _ => Ok(None),
+    }
+}
+
+// How the lives of a drill are run, and over which fill.
+fn drill_settings(options: &[Text]) -> Option<(Settings, u8)>
+    ensures answer { result ≡ spec.drill_settings options.now }
+    ensures ranges { IfSome result (λ both. InRange both.0) }
+{
+    let names = &[
+        Name::Until,
+        Name::Every,
+        Name::Max,
+        Name::Pace,
+        Name::Fill,
+        Name::Stops,
+    ];
+    let settings = settings(options, names)?;
+    let fill = number_within(options, Name::Fill, 0, 0, 255)?;
+    Some((settings, fill as u8))
+}
+
+// The stops that the options list.
+fn stops(alloc: Global, options: &[Text]) -> Result<Option<Stops>, NoMemory>
+    ensures answer { IfOk result (λ stops. stops ≡ stops_or_none (value_of Name.Stops options.now)) }
+{
+    match value_of(options, Name::Stops) {
+        None => Ok(Some(Stops::none(alloc))),
+        Some(word) => listed_stops(alloc, word.as_bytes()),
+    }
+}
+
+// `generate` and the words behind it.
+fn generate(words: &[Text]) -> Option<Command>
+    ensures answer { result ≡ spec.generate_of words.now }
+    ensures places { IfSome result (λ command. HasPlaces command (length words.now + 1)) }
+    ensures ranges { IfSome result HasRanges }
+{
+    match words {
+        [functions] => {
+            let functions = number_in(functions.as_bytes(), 1, 1_000)?;
+            Some(Command::Generate {
+                functions: functions as u16,
             })
         }
         _ => None,

@@ -11,7 +11,7 @@ use Rattle.ckpt_runner.specs.declared.started.Started.{Started}
 use Rattle.ckpt_runner.specs.declared.started.Started.TheVariants.{Begun}
 use Rattle.ckpt_runner.specs.Opening.{Given}
 use Rattle.ckpt_runner.specs.Standing.{IsGivenSource}
-use Rattle.drilled_lives.specs.declared.stop.Stop.{Stop}
+use Rattle.command_words.specs.declared.stops.Stop.{Stop}
 use Rattle.drilled_lives.specs.declared.course.Course.{Course}
 use Rattle.drilled_lives.specs.declared.course.Course.TheVariants as course
 use Rattle.drilled_lives.specs.Courses.{Known, Fresh, AreCourses, MeetsStop, latest_of, known_of}

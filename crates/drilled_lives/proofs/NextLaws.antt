@@ -14,8 +14,8 @@ use Rattle.ckpt_runner.specs.declared.started.Started.TheVariants.{Begun, Resume
 use Rattle.ckpt_runner.specs.Opening.{Given, Opens, ticks_at}
 use Rattle.ckpt_runner.specs.Standing.{IsGivenSource}
 use Rattle.one_life.specs.declared.living.Lived.{Lived}
-use Rattle.drilled_lives.specs.declared.stop.Stop.{Stop}
-use Rattle.drilled_lives.specs.declared.stop.Stop.TheVariants.{AtStep, InCall}
+use Rattle.command_words.specs.declared.stops.Stop.{Stop}
+use Rattle.command_words.specs.declared.stops.Stop.TheVariants.{AtStep, InCall}
 use Rattle.drilled_lives.specs.declared.course.Course.{Course}
 use Rattle.drilled_lives.specs.declared.course.Course.TheVariants as course
 use Rattle.drilled_lives.specs.declared.living.LifeFault.{LifeFault}

@@ -7,8 +7,8 @@ use Rattle.ckpt_runner.specs.declared.started.Started.{Started}
 use Rattle.ckpt_runner.specs.declared.started.Started.TheVariants.{Begun, Resumed}
 use Rattle.ckpt_runner.specs.Opening.{ticks_at}
 use Rattle.one_life.specs.declared.living.Lived.{Lived}
-use Rattle.drilled_lives.specs.declared.stop.Stop.{Stop}
-use Rattle.drilled_lives.specs.declared.stop.Stop.TheVariants.{AtStep, InCall}
+use Rattle.command_words.specs.declared.stops.Stop.{Stop}
+use Rattle.command_words.specs.declared.stops.Stop.TheVariants.{AtStep, InCall}
 use Rattle.drilled_lives.specs.declared.course.Course.{Course}
 use Rattle.drilled_lives.specs.declared.course.Course.TheVariants as course
 

@@ -12,7 +12,7 @@ ghost use Rattle.drilled_lives.specs.Between.{IsSpacedBy, IsBetween};
 use crate::course::{Course, Drilled};
 use crate::fault::DrillFault;
 use crate::output::read_output;
-use crate::stop::Stop;
+use command_words::Stop;
 use crate::stopping::{live_out, live_stopped};
 use ckpt_base::NoMemory;
 use ckpt_runner::{How, Mode};

@@ -11,11 +11,9 @@ mod going;
 mod lines;
 mod living;
 mod output;
-mod stop;
 mod stopping;
 
 pub use course::{Course, Drilled};
 pub use drilling::{OUTPUT_ROOM, drill};
 pub use fault::DrillFault;
 pub use lines::add_courses;
-pub use stop::Stop;

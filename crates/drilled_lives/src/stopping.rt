@@ -5,11 +5,11 @@ ghost use Rattle.disk_model.specs.MemoryDisk.{view_of};
 ghost use Rattle.ckpt_runner.specs.Arguments.{given_by};
 ghost use Rattle.drilled_lives.specs.Living.{cut_course};
 ghost use Rattle.drilled_lives.specs.Next.{Follows, IsCrashedBy};
-ghost use Rattle.drilled_lives.specs.declared.stop.Stop.TheVariants.{AtStep, InCall};
+ghost use Rattle.command_words.specs.declared.stops.Stop.TheVariants.{AtStep, InCall};
 
 use crate::course::Course;
 use crate::living::{LifeFault, live_to};
-use crate::stop::Stop;
+use command_words::Stop;
 use ckpt_runner::{How, OpenFault};
 use compiled_program::Compiled;
 use disk_model::MemDisk;

@@ -1,6 +1,8 @@
 use Rattle.std.proofs.Common.{subst, ℕ, List}
 use Rattle.disk_model.specs.Plate.{plate}
 use Rattle.ckpt_program.specs.Carries.{word_at}
+use Rattle.command_words.specs.declared.stops.Stop.{Stop as LifeStop}
+use Rattle.ckpt_program.specs.Drill as drill
 use Rattle.ckpt_program.specs.LifeRow as life
 use Rattle.ckpt_program.specs.LifeStages.{to_begin, to_go_on}
 use Rattle.ckpt_program.specs.Rows as row
@@ -268,3 +270,60 @@ returns-in-Why-clause-told g c = rw c.in-Why.is tt
 
 pub returns-in-Why-clause-lasting : goal.returns-in-Why-clause-lasting
 returns-in-Why-clause-lasting g c = rw c.in-Why.is (λ life. absurd life)
+
+pub returns-in-Drill-clause-answer : goal.returns-in-Drill-clause-answer
+returns-in-Drill-clause-answer g c =
+    let view = g.H.Shelf.view in
+    let named = λ (s i : List ℕ) (stops : List LifeStop). Comes (drill.Drill s i (drill.to_drill c.in-Drill.settings c.in-Drill.fill) stops (sight (view c.args.shelf.now)) (sight (view c.drill_source.new.shelf))) c.drill_source.result in
+    let first = c.word-in-Drill.result.now in
+    let second = c.word-in-Drill-2.result.now in
+    rw c.in-Drill.is (subst (λ (s : List ℕ). named s (word_at c.args.words.now c.in-Drill.input) c.in-Drill.stops) c.word-in-Drill.ensures.answer
+    (subst (λ (i : List ℕ). named first i c.in-Drill.stops) c.word-in-Drill-2.ensures.answer (subst (named first second) c.as_slice.ensures.answer c.drill_source.ensures.answer)))
+
+pub returns-in-Drill-clause-stays : goal.returns-in-Drill-clause-stays
+returns-in-Drill-clause-stays g c = λ kept. stays_still (g.D.Disk.view c.args.disk.now) (g.met.D.Disk.lawful c.args.disk.now)
+
+pub returns-in-Drill-clause-count : goal.returns-in-Drill-clause-count
+returns-in-Drill-clause-count g c = calm_disk_still c.drill_source.result (g.D.Disk.view c.args.disk.now).faults
+
+pub returns-in-Drill-clause-keeps : goal.returns-in-Drill-clause-keeps
+returns-in-Drill-clause-keeps g c = keeps_still c.drill_source.result (g.D.Disk.view c.args.disk.now)
+
+pub returns-in-Drill-clause-moments : goal.returns-in-Drill-clause-moments
+returns-in-Drill-clause-moments g c = rw c.in-Drill.is (λ told s none. absurd none)
+
+pub returns-in-Drill-clause-later : goal.returns-in-Drill-clause-later
+returns-in-Drill-clause-later g c = λ spares. let v = g.D.Disk.view c.args.disk.now in images_stay v v (g.met.D.Disk.tells_all c.args.disk.now) (stays_still v (g.met.D.Disk.lawful c.args.disk.now))
+
+pub returns-in-Drill-clause-told : goal.returns-in-Drill-clause-told
+returns-in-Drill-clause-told g c = rw c.in-Drill.is tt
+
+pub returns-in-Drill-clause-lasting : goal.returns-in-Drill-clause-lasting
+returns-in-Drill-clause-lasting g c = rw c.in-Drill.is (λ life. absurd life)
+
+pub returns-in-Generate-clause-answer : goal.returns-in-Generate-clause-answer
+returns-in-Generate-clause-answer g c = rw c.in-Generate.is c.generate.ensures.answer
+
+pub returns-in-Generate-clause-stays : goal.returns-in-Generate-clause-stays
+returns-in-Generate-clause-stays g c = λ kept. stays_still (g.D.Disk.view c.args.disk.now) (g.met.D.Disk.lawful c.args.disk.now)
+
+pub returns-in-Generate-clause-count : goal.returns-in-Generate-clause-count
+returns-in-Generate-clause-count g c = calm_disk_still c.generate.result (g.D.Disk.view c.args.disk.now).faults
+
+pub returns-in-Generate-clause-keeps : goal.returns-in-Generate-clause-keeps
+returns-in-Generate-clause-keeps g c = keeps_still c.generate.result (g.D.Disk.view c.args.disk.now)
+
+pub returns-in-Generate-clause-moments : goal.returns-in-Generate-clause-moments
+returns-in-Generate-clause-moments g c = rw c.in-Generate.is (λ told s none. absurd none)
+
+pub returns-in-Generate-clause-later : goal.returns-in-Generate-clause-later
+returns-in-Generate-clause-later g c = λ spares. let v = g.D.Disk.view c.args.disk.now in images_stay v v (g.met.D.Disk.tells_all c.args.disk.now) (stays_still v (g.met.D.Disk.lawful c.args.disk.now))
+
+pub returns-in-Generate-clause-told : goal.returns-in-Generate-clause-told
+returns-in-Generate-clause-told g c = rw c.in-Generate.is tt
+
+pub returns-in-Generate-clause-lasting : goal.returns-in-Generate-clause-lasting
+returns-in-Generate-clause-lasting g c = rw c.in-Generate.is (λ life. absurd life)
+
+pub returns-in-Generate-clause-calm : goal.returns-in-Generate-clause-calm
+returns-in-Generate-clause-calm g c = calm_still c.generate.result (sight (g.H.Shelf.view c.args.shelf.now))

@@ -1,11 +1,15 @@
-use Rattle.std.proofs.Common.{⊎_elim, Err, sym, subst}
+use Rattle.std.proofs.Common.{⊎_elim, Result, Err, sym, subst}
 use Rattle.command_words.specs.Words.{command_of}
 use Rattle.disk_model.specs.Keeps.{Untouched}
 use Rattle.disk_model.proofs.Keeping.{untouched_still}
+use Rattle.disk_model.specs.Plate.{plate}
 use Rattle.ckpt_program.specs.Sight.{sight}
+use Rattle.ckpt_program.specs.declared.done.Done.{Done}
+use Rattle.ckpt_program.specs.declared.stop.Stop.{Stop}
 use Rattle.ckpt_program.specs.declared.stop.Stop.TheVariants.{NoMemory}
 use Rattle.ckpt_program.proofs.Completeness.{complete}
 use Rattle.ckpt_program.proofs.Disks.{stays_moments, stays_lasting, blamed_disk, calm_later}
+use Rattle.ckpt_program.proofs.Drilling.{drills_as_source}
 use Rattle.ckpt_program.proofs.Lasting.{lasts_refused, ends_as_source, in_order, none_told, output_lasting}
 use Rattle.ckpt_program.proofs.top.ckpt.Goals as goal
 
@@ -70,3 +74,12 @@ returns-clause-in_order g c =
     let command = command_of words in
     ⊎_elim (λ told. in_order words command shelf v w c.come_to-came.result (console c.args.console.now) (console c.tell.new.console) c.tell.result c.come_to-came.ensures.told told)
     (λ told. in_order words command shelf v w (Err NoMemory) (console c.args.console.now) (console c.tell.new.console) c.tell.result (none_told words command shelf v w NoMemory) told) c.tell.ensures.answer
+
+pub returns-clause-drills : goal.returns-clause-drills
+returns-clause-drills g c =
+    let shelf = g.H.Shelf.view in
+    let disk = g.D.Disk.view in
+    let console = g.K.Sink.view in
+    let words = c.args.words.now.items in
+    let drilled = λ (o : Result Done Stop). drills_as_source words (command_of words) (sight (shelf c.args.shelf.now)) (sight (shelf c.come_to-came.new.shelf)) (plate (disk c.args.disk.now)) (plate (disk c.come_to-came.new.disk)) o (console c.args.console.now) (console c.tell.new.console) c.tell.result in
+    ⊎_elim (λ told. drilled c.come_to-came.result c.come_to-came.ensures.answer told) (λ told. drilled (Err NoMemory) tt told) c.tell.ensures.answer

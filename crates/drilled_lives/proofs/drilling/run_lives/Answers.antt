@@ -5,8 +5,8 @@ use Rattle.drilled_lives.specs.declared.course.Course.{Course}
 use Rattle.std.proofs.lemmas.List.{drop_all}
 use Rattle.ckpt_runner.specs.declared.started.Started.TheVariants.{Begun}
 use Rattle.drilled_lives.specs.Courses.{AreCourses, Fresh}
-use Rattle.drilled_lives.specs.declared.stop.Stop.{Stop}
-use Rattle.drilled_lives.specs.declared.stop.Stop.TheVariants.{AtStep}
+use Rattle.command_words.specs.declared.stops.Stop.{Stop}
+use Rattle.command_words.specs.declared.stops.Stop.TheVariants.{AtStep}
 use Rattle.drilled_lives.proofs.DrillLaws.{IsSoFar, drop_next, last_output, none_so_far, one_more, other_mode, the_last}
 use Rattle.drilled_lives.proofs.drilling.run_lives.Goals as goal
 

@@ -2,7 +2,7 @@ use Rattle.std.proofs.Common.{refl, subst, sym, ◌∙◌, Some}
 use Rattle.disk_model.specs.MemoryDisk.{view_of}
 use Rattle.ckpt_runner.specs.Arguments.{given_by}
 use Rattle.drilled_lives.specs.declared.course.Course.{Course}
-use Rattle.drilled_lives.specs.declared.stop.Stop.TheVariants.{InCall}
+use Rattle.command_words.specs.declared.stops.Stop.TheVariants.{InCall}
 use Rattle.drilled_lives.specs.Next.{Follows}
 use Rattle.drilled_lives.proofs.NextLaws.{call_follows, cut_crashed, cut_follows, is_crash, lived_crashed}
 use Rattle.drilled_lives.proofs.stopping.live_in_call.Goals as goal

@@ -1,7 +1,7 @@
 use Rattle.std.proofs.Common.{sym, subst, Some}
 use Rattle.disk_model.specs.MemoryDisk.{view_of}
 use Rattle.ckpt_runner.specs.Arguments.{given_by}
-use Rattle.drilled_lives.specs.declared.stop.Stop.{Stop}
+use Rattle.command_words.specs.declared.stops.Stop.{Stop}
 use Rattle.drilled_lives.specs.Next.{Follows, IsCrashedBy}
 use Rattle.drilled_lives.proofs.stopping.live_stopped.Goals as goal
 
