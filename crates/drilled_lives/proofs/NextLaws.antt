@@ -142,7 +142,7 @@ module _ (g : Given) (s : Source) (spaced : IsSpacedBy s g.every) (latest : Star
 
   pub cut_next : (number pick : ℕ) (fault : LifeFault) (v : View) → HasOpened g u.seen fault → IsCrash w v → IsNext s g.every g.until latest known (Some (InCall number pick)) (cut_course fault) v
   cut_next number pick (Refused fault) v opened crash = opening_next number pick v crash
-  cut_next number pick (Stopped started) v opened crash = call_next started opened.0 opened.1 number pick v crash
+  cut_next number pick (Stopped started ticks) v opened crash = call_next started opened.0 opened.1 number pick v crash
 
   -- there was a stop at a step, and it did not come to it
   pub step_not_reached : (n : ℕ) (c : Course) → ((x : Started) → c ≡ course.Left x → ⊥) → LivesTo g s (Some n) u c w → IsNext s g.every g.until latest known (Some (AtStep n)) c w
@@ -200,7 +200,7 @@ module _ (g : Given) (n : ℕ) (m k : MemoryDisk) (w : View) (same : k ≡ recor
 
 of_fault : (number pick : ℕ) (fault : LifeFault) (before m : MemoryDisk) → IsTrue before.blown → m ≡ after_crash pick before → IsCrashedBy (InCall number pick) (cut_course fault) m
 of_fault number pick (Refused fault) before m blown crash = (before, blown, crash)
-of_fault number pick (Stopped started) before m blown crash = (before, blown, crash)
+of_fault number pick (Stopped started ticks) before m blown crash = (before, blown, crash)
 
 pub cut_crashed : (number pick : ℕ) (fault : LifeFault) (c : Course) (before m : MemoryDisk) → c ≡ cut_course fault → IsTrue before.blown → m ≡ after_crash pick before → IsCrashedBy (InCall number pick) c m
 cut_crashed number pick fault c before m same blown crash = subst (λ (x : Course). IsCrashedBy (InCall number pick) x m) (sym same) (of_fault number pick fault before m blown crash)

@@ -7,8 +7,7 @@ use Rattle.run_images.specs.Source.{Source}
 use Rattle.ckpt_runner.specs.declared.started.Started.{Started}
 use Rattle.ckpt_runner.specs.Opening.{Given, Opens, ticks_at}
 use Rattle.drilled_lives.specs.declared.course.Course.{Course}
-use Rattle.ckpt_runner.specs.declared.started.OpenFault.{OpenFault}
-use Rattle.ckpt_runner.specs.declared.started.OpenFault.TheVariants.{Failed, Memory}
+use Rattle.ckpt_runner.specs.declared.started.OpenFault.TheVariants.{Memory}
 use Rattle.drilled_lives.specs.declared.course.Course.TheVariants as course
 use Rattle.drilled_lives.specs.declared.fault.DrillFault.{DrillFault}
 use Rattle.drilled_lives.specs.declared.fault.DrillFault.TheVariants as drill
@@ -28,19 +27,15 @@ pub record LivesTo (g : Given) (s : Source) (step : Option ℕ) (old : View) (c 
 -- a life that was stopped had started as the store says
 abbrev pub HasOpened : Given → Store → LifeFault → Type 0
 HasOpened g seen (Refused fault) = Unit {0}
-HasOpened g seen (Stopped started) = (o : Origin) × Opens g seen started o
+HasOpened g seen (Stopped started ticks) = (o : Origin) × Opens g seen started o
 
 -- what a life did that a stop inside a call cut off
 abbrev pub cut_course : LifeFault → Course
 cut_course (Refused fault) = course.Opening
-cut_course (Stopped started) = course.Left started
+cut_course (Stopped started ticks) = course.Left started
 
--- what a fault is for a life without such a stop: a failure of the disk, where the life was going on
-abbrev pub refusal_of : LifeFault → OpenFault
-refusal_of (Refused fault) = fault
-refusal_of (Stopped started) = Failed
-
--- what it is for a drill
-abbrev pub fault_of : OpenFault → DrillFault
-fault_of Memory = drill.Memory
-fault_of fault = drill.Life fault
+-- what a fault into which no stop came is for a drill
+abbrev pub fault_of : LifeFault → DrillFault
+fault_of (Refused Memory) = drill.Memory
+fault_of (Refused fault) = drill.Refused fault
+fault_of (Stopped started ticks) = drill.NoRoom ticks

@@ -1,3 +1,4 @@
+use crate::living::LifeFault;
 use ckpt_base::{Failed, NoMemory};
 use ckpt_runner::OpenFault;
 use std::alloc::AllocError;
@@ -9,9 +10,12 @@ pub enum DrillFault {
     /// No memory was found.
     #[error("no memory")]
     Memory,
-    /// A life was refused by its store, or a call on the disk failed that no stop came into: a file has no room for what was to be written.
-    #[error("a life of the drill failed")]
-    Life(OpenFault),
+    /// A life was refused by its store.
+    #[error("a life of the drill was refused")]
+    Refused(OpenFault),
+    /// A call on the disk failed that no stop came into, when the run had taken so many ticks: a file has no room for what was to be written.
+    #[error("no room on the disk of the drill")]
+    NoRoom { ticks: u64 },
 }
 
 impl From<NoMemory> for DrillFault {
@@ -38,26 +42,27 @@ impl From<AllocError> for DrillFault {
 
 impl From<Failed> for DrillFault {
     ghost use Rattle.std.specs.Prelude.{◌≡◌};
-    ghost use Rattle.drilled_lives.specs.declared.fault.DrillFault.TheVariants.{Life};
+    ghost use Rattle.drilled_lives.specs.declared.fault.DrillFault.TheVariants.{Refused};
     ghost use Rattle.ckpt_runner.specs.declared.started.OpenFault.TheVariants.{Failed};
 
-    ghost from_gives = { λ _ e. e ≡ Life Failed };
+    ghost from_gives = { λ _ e. e ≡ Refused Failed };
 
     fn from(_: Failed) -> DrillFault {
-        DrillFault::Life(OpenFault::Failed)
+        DrillFault::Refused(OpenFault::Failed)
     }
 }
 
-impl From<OpenFault> for DrillFault {
+impl From<LifeFault> for DrillFault {
     ghost use Rattle.std.specs.Prelude.{◌≡◌};
     ghost use Rattle.drilled_lives.specs.Living.{fault_of};
 
     ghost from_gives = { λ fault e. e ≡ fault_of fault };
 
-    fn from(fault: OpenFault) -> DrillFault {
+    fn from(fault: LifeFault) -> DrillFault {
         match fault {
-            OpenFault::Memory => DrillFault::Memory,
-            _ => DrillFault::Life(fault),
+            LifeFault::Refused(OpenFault::Memory) => DrillFault::Memory,
+            LifeFault::Refused(refusal) => DrillFault::Refused(refusal),
+            LifeFault::Stopped { ticks, .. } => DrillFault::NoRoom { ticks },
         }
     }
 }

@@ -26,8 +26,8 @@ use std::sync::ledger::Blank;
 pub enum LifeFault {
     /// It was not opened.
     Refused(OpenFault),
-    /// It started so, and a call on the disk failed then.
-    Stopped(Started),
+    /// It started so, and a call on the disk failed when its run had taken so many ticks.
+    Stopped { started: Started, ticks: u64 },
 }
 
 impl From<OpenFault> for LifeFault {
@@ -38,20 +38,6 @@ impl From<OpenFault> for LifeFault {
 
     fn from(fault: OpenFault) -> LifeFault {
         LifeFault::Refused(fault)
-    }
-}
-
-impl From<LifeFault> for OpenFault {
-    ghost use Rattle.std.specs.Prelude.{◌≡◌};
-    ghost use Rattle.drilled_lives.specs.Living.{refusal_of};
-
-    ghost from_gives = { λ fault e. e ≡ refusal_of fault };
-
-    fn from(fault: LifeFault) -> OpenFault {
-        match fault {
-            LifeFault::Refused(refusal) => refusal,
-            LifeFault::Stopped(_) => OpenFault::Failed,
-        }
     }
 }
 
@@ -86,7 +72,10 @@ pub(crate) fn live_to<D: Disk>(
     let stop = stop_at(step, life.ticks());
     match go_to::<D, Brand>(&mut life, disk, stop, how.until, Blank::new(1)) {
         Ok(course) => Ok(course),
-        Err(_) => Err(LifeFault::Stopped(started)),
+        Err(_) => Err(LifeFault::Stopped {
+            started,
+            ticks: life.ticks(),
+        }),
     }
 }
 

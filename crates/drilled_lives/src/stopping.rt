@@ -25,7 +25,7 @@ pub(crate) fn live_stopped(
     disk: &mut MemDisk,
     how: How<'_>,
     stop: Stop,
-) -> Result<Course, OpenFault>
+) -> Result<Course, LifeFault>
     requires every { 1 ≤ how.every }
     requires max { (2 ≤ how.max) × (how.max ≤ 64) }
     requires pace { 1 ≤ length how.pace.now }
@@ -54,7 +54,7 @@ pub(crate) fn live_out(
     input: &[u8],
     disk: &mut MemDisk,
     how: How<'_>,
-) -> Result<Course, OpenFault>
+) -> Result<Course, LifeFault>
     requires every { 1 ≤ how.every }
     requires max { (2 ≤ how.max) × (how.max ≤ 64) }
     requires pace { 1 ≤ length how.pace.now }
@@ -76,7 +76,7 @@ fn live_to_step(
     disk: &mut MemDisk,
     how: How<'_>,
     step: u64,
-) -> Result<Course, OpenFault>
+) -> Result<Course, LifeFault>
     requires every { 1 ≤ how.every }
     requires max { (2 ≤ how.max) × (how.max ≤ 64) }
     requires pace { 1 ≤ length how.pace.now }
@@ -106,7 +106,7 @@ fn live_in_call(
     how: How<'_>,
     number: u32,
     pick: u8,
-) -> Result<Course, OpenFault>
+) -> Result<Course, LifeFault>
     requires every { 1 ≤ how.every }
     requires max { (2 ≤ how.max) × (how.max ≤ 64) }
     requires pace { 1 ≤ length how.pace.now }
@@ -127,7 +127,7 @@ fn live_in_call(
 }
 
 // What a life did that failed: a call in which the fuse has acted is a stop, and any other fault is one.
-fn course_of(fault: LifeFault, blown: bool) -> Result<Course, OpenFault>
+fn course_of(fault: LifeFault, blown: bool) -> Result<Course, LifeFault>
     ensures course { IfOk result (λ course. course ≡ cut_course fault) }
     ensures blown { IfOk result (λ course. blown ≡ true) }
 {
@@ -136,14 +136,14 @@ fn course_of(fault: LifeFault, blown: bool) -> Result<Course, OpenFault>
             if blown && refusal == OpenFault::Failed {
                 Ok(Course::Opening)
             } else {
-                Err(refusal)
+                Err(fault)
             }
         }
-        LifeFault::Stopped(started) => {
+        LifeFault::Stopped { started, .. } => {
             if blown {
                 Ok(Course::Left(started))
             } else {
-                Err(OpenFault::Failed)
+                Err(fault)
             }
         }
     }
