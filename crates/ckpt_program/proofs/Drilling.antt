@@ -151,10 +151,11 @@ drill_said heading asked stops tree text input (Err (Because c)) k l result came
     let why = drill_cause tree input asked.settings.until c fails in
     inr (text_of (Err (Because c)), whole.0, inr (whole.1 ∙ why.0, why.1, why.2))) (λ told. absurd told.2) compiled.2) came
 
--- what the program writes within the bound is more than there is room for
-pub writes_too_much : (tree : Resolved) (input : List ℕ) (until : ℕ) (output : List ℕ) → output ≡ run.output (meaning tree input until).events → 16777216 < length output → FailsDrill tree input until (cause.TooLarge document.Output)
+-- what the program writes within a bound that is no later is more than there is room for
+pub writes_too_much : (tree : Resolved) (input : List ℕ) (early until : ℕ) (output : List ℕ) → output ≡ run.output (meaning tree input early).events
+    → length (run.output (meaning tree input early).events) ≤ length (run.output (meaning tree input until).events) → 16777216 < length output → FailsDrill tree input until (cause.TooLarge document.Output)
 unfolding FailsDrill
-writes_too_much tree input until output is more = subst (λ (o : List ℕ). 16777216 < length o) is more
+writes_too_much tree input early until output is stays more = omega (arith, ap length is, stays, more)
 
 -- the lives that are left, behind the one at hand
 pub one_life_more : (courses : List Course) (i : ℕ) (d : Course) (now then : Ending) → i < length courses → then ≡ ending_of (get_or courses i d) → last_ending now (drop i courses) ≡ last_ending Going courses

@@ -15,5 +15,6 @@ mod SourceRead
 mod ShelfReady
 mod StoreReady
 mod Ordering
+mod WrittenLaws
 mod Drilling
 mod Completeness

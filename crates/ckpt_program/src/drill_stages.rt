@@ -1,8 +1,10 @@
 //! The stages of a command that drills.
 
-ghost use Rattle.std.specs.Prelude.{◌≡◌, ◌≤◌, ◌+◌, ◌++◌, length, codes, string_bytes, IfOk, IfSome};
+ghost use Rattle.std.specs.Prelude.{◌≡◌, ◌≤◌, ◌+◌, ◌++◌, ℕ, List, length, codes, string_bytes, IfOk, IfSome};
 ghost use Rattle.std.specs.Fmt.{decimal};
+ghost use Rattle.ckpt_base.specs.Run.{output};
 ghost use Rattle.ckpt_base.specs.declared.ending.Ending.TheVariants.{Going};
+ghost use Rattle.c_tree.specs.Meaning.{meaning};
 ghost use Rattle.command_words.specs.Words.{InRange};
 ghost use Rattle.ckpt_program.specs.Drill as spec;
 ghost use Rattle.ckpt_program.specs.Drill.{Drills, StopsDrill, TellsDrill};
@@ -14,12 +16,14 @@ use crate::done::{Done, Told};
 use crate::life_stages::{Asked, PACE};
 use crate::stop::{Cause, Document, Stop};
 use c_tree::Checked;
+use code_maker::codes_mean_their_programs;
 use ckpt_base::{Bytes, Ending, NoMemory};
 use ckpt_runner::How;
 use command_words::Stop as LifeStop;
 use compiled_program::Compiled;
 use drilled_lives::{Course, DrillFault, Drilled, OUTPUT_ROOM, add_courses, drill};
 use image_format::Marks;
+use machine_code::{runs_pass_what_they_reach, runs_show_what_they_do};
 use sqlite_items::Boxed;
 use std::alloc::{AllocError, Global};
 use std::fmt::Write;
@@ -50,22 +54,42 @@ pub fn drill_compiled(
     };
     match drill(alloc, compiled, marks, input, how, stops) {
         Ok(drilled) if drilled.output.len() <= OUTPUT_ROOM => Ok(drilled),
-        Err(DrillFault::Memory) => Err(Stop::NoMemory),
-        _ => Err(why_failed(alloc, program, input, until)),
+        Err(DrillFault::NoRoom { ticks }) => Err(why_full(alloc, program, input, until, ticks)),
+        _ => Err(Stop::NoMemory),
     }
 }
 
-// Why no file of the disk in memory had room for what was to be written: the program writes too much, or there was no memory for more room.
+// Why the disk in memory had no room for what was to be written, when the run had taken so many ticks: what the program had written then is too much
+// already, or there was no memory for more room. Later ticks are not looked at, since a program may write for ever.
 #[tactic(auto, unfolding(crate::specs::Drill::FailsDrill))]
-fn why_failed(alloc: Global, program: &Boxed<Checked>, input: &[u8], until: u64) -> Stop
+fn why_full(
+    alloc: Global,
+    program: &Boxed<Checked>,
+    input: &[u8],
+    until: u64,
+    ticks: u64,
+) -> Stop
     ensures answer { StopsDrill program.now input.now until result }
 {
-    match c_meaning::plain(alloc, program.get(), input, until) {
+    let program = program.get();
+    written_stays(program);
+    match c_meaning::plain(alloc, program, input, until.min(ticks)) {
         Ok(run) if run.output.as_slice().len() > OUTPUT_ROOM => {
             Stop::Because(Cause::TooLarge(Document::Output))
         }
         _ => Stop::NoMemory,
     }
+}
+
+// What a program writes within a bound, it writes within a later one too.
+fn written_stays(program: &Checked)
+    ensures law { (input : List ℕ) (low high : ℕ) → low ≤ high
+        → length (output (meaning program.now input low).events) ≤ length (output (meaning program.now input high).events) }
+{
+    codes_mean_their_programs();
+    runs_pass_what_they_reach();
+    runs_show_what_they_do();
+    let _tree = program.tree();
 }
 
 /// Tells the lives of a drill and its output, behind a heading.
