@@ -43,10 +43,9 @@ gives v bound r (answer.Exclude n) h = absurd h
 
 -- the laws of runs that are used here
 module _
-  (runs : (p : Resolved) (input : List ℕ) (n : ℕ) → IsChecked p → CodeRun (code_of p) (world_at 0 (first_state p input)) n (meaning p input n))
-  (shows : (c : CodeView) (w v : World) → Reaches c w v → Shows w v)
-  (passes : (c : CodeView) (w v : World) (n : ℕ) (r : Run) → CodeRun c w n r → Reaches c w v → v.state.ticks ≤ w.state.ticks + n → CodeRun c v ((w.state.ticks + n) - v.state.ticks) r) where
-
+    (runs : (p : Resolved) (input : List ℕ) (n : ℕ) → IsChecked p → CodeRun (code_of p) (world_at 0 (first_state p input)) n (meaning p input n))
+    (shows : (c : CodeView) (w v : World) → Reaches c w v → Shows w v)
+    (passes : (c : CodeView) (w v : World) (n : ℕ) (r : Run) → CodeRun c w n r → Reaches c w v → v.state.ticks ≤ w.state.ticks + n → CodeRun c v ((w.state.ticks + n) - v.state.ticks) r) where
   pub written_more : (p : Resolved) (input : List ℕ) (low high : ℕ) → IsChecked p → low ≤ high → length (output (meaning p input low).events) ≤ length (output (meaning p input high).events)
   written_more p input low high checked le =
       let c = code_of p in
@@ -60,5 +59,5 @@ module _
       let there = gives u (v.state.ticks + (bound - v.state.ticks)) (meaning p input high) (next_row c unprotected u.state u.memory).event late.2 in
       let shown = shows c v u late.1 in
       let whole : output (meaning p input high).events ≡ output (meaning p input low).events ++ output shown.more =
-          ap output (there.events ∙ shown.events ∙ ap (λ (es : List Event). es ++ shown.more) (sym here.events)) ∙ output_on (meaning p input low).events shown.more in
+      ap output (there.events ∙ shown.events ∙ ap (λ (es : List Event). es ++ shown.more) (sym here.events)) ∙ output_on (meaning p input low).events shown.more in
       omega (arith, ap length whole, length-append (output (meaning p input low).events) (output shown.more))

@@ -16,9 +16,9 @@ use crate::done::{Done, Told};
 use crate::life_stages::{Asked, PACE};
 use crate::stop::{Cause, Document, Stop};
 use c_tree::Checked;
-use code_maker::codes_mean_their_programs;
 use ckpt_base::{Bytes, Ending, NoMemory};
 use ckpt_runner::How;
+use code_maker::codes_mean_their_programs;
 use command_words::Stop as LifeStop;
 use compiled_program::Compiled;
 use drilled_lives::{Course, DrillFault, Drilled, OUTPUT_ROOM, add_courses, drill};
@@ -62,13 +62,7 @@ pub fn drill_compiled(
 // Why the disk in memory had no room for what was to be written, when the run had taken so many ticks: what the program had written then is too much
 // already, or there was no memory for more room. Later ticks are not looked at, since a program may write for ever.
 #[tactic(auto, unfolding(crate::specs::Drill::FailsDrill))]
-fn why_full(
-    alloc: Global,
-    program: &Boxed<Checked>,
-    input: &[u8],
-    until: u64,
-    ticks: u64,
-) -> Stop
+fn why_full(alloc: Global, program: &Boxed<Checked>, input: &[u8], until: u64, ticks: u64) -> Stop
     ensures answer { StopsDrill program.now input.now until result }
 {
     let program = program.get();

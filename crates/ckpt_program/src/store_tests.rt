@@ -1,6 +1,6 @@
+use crate::drill_rows::{CALLS, GENERATED, REFUSED_DRILLS, STEPS};
 use crate::store_rows::{FILES, RESTARTS, RUNS, Step, Store, UPKEEP, USAGE};
 use crate::top::ckpt;
-use crate::drill_rows::DRILLS;
 use crate::why_rows::REASONS;
 use ckpt_base::{Bytes, MemShelf, MemSink, Text};
 use disk_model::{Disk, DiskFile, MemDisk};
@@ -100,8 +100,23 @@ fn reasons_for_cells(rt: HostRuntime) -> Result<(), Fail> {
 }
 
 #[test]
-fn lives_are_drilled(rt: HostRuntime) -> Result<(), Fail> {
-    hold(&rt, rt.alloc(), DRILLS.as_slice())
+fn lives_are_stopped_at_steps(rt: HostRuntime) -> Result<(), Fail> {
+    hold(&rt, rt.alloc(), STEPS.as_slice())
+}
+
+#[test]
+fn generated_program_is_drilled(rt: HostRuntime) -> Result<(), Fail> {
+    hold(&rt, rt.alloc(), GENERATED.as_slice())
+}
+
+#[test]
+fn lives_are_stopped_inside_a_call(rt: HostRuntime) -> Result<(), Fail> {
+    hold(&rt, rt.alloc(), CALLS.as_slice())
+}
+
+#[test]
+fn drills_are_refused(rt: HostRuntime) -> Result<(), Fail> {
+    hold(&rt, rt.alloc(), REFUSED_DRILLS.as_slice())
 }
 
 // The calls on the disk with these numbers fail, each in a run of its own: the run answers 5, and a restart over the same disk ends as the run would have. A run that meets no failure is the last.

@@ -209,7 +209,7 @@ fn drill(alloc: Global, words: &[Text]) -> Result<Option<Command>, NoMemory>
     ensures ranges { IfOk result (λ c. IfSome c HasRanges) }
 {
     match words {
-        [source, input, options @ ..] if !is_option(source) && !is_option(input) => {
+        [source, input, options @ ..] if !(is_option(source) || is_option(input)) => {
             let Some((settings, fill)) = drill_settings(options) else {
                 return Ok(None);
             };
