@@ -1,7 +1,7 @@
 //! A record that is prepared, and then written one disk call at a time.
 ghost use Rattle.std.specs.Prelude.{◌≡◌, ◌+◌, ◌<◌, List, ℕ, None, IsTrue, IfOk, OnOk, OnErr, length};
 ghost use Rattle.ckpt_base.specs.Faults.{Rose};
-ghost use Rattle.disk_model.specs.View.{View, Steady};
+ghost use Rattle.disk_model.specs.View.{Steady};
 ghost use Rattle.disk_model.specs.Moments.{Among, LeavesOnly};
 ghost use Rattle.image_format.specs.Image.{Image, InRange, IsImage, word_in_runs};
 ghost use Rattle.image_format.specs.Written.{AreListed, HasCells, image_of, filled, listed_word};
@@ -24,7 +24,7 @@ use page_frames::Frames;
 impl Journal {
     /// Makes the record of the image that lists the cells of the runs with their words, with no call on the disk; `write_call` writes it,
     /// behind the records so far, among which there is room for it. What the record says follows what the newest one says.
-    pub fn prepare(&mut self, fields: &Fields, runs: &[Run], frames: &Frames)
+    pub fn prepare<D: Disk>(&mut self, disk: &D, fields: &Fields, runs: &[Run], frames: &Frames)
         requires whole { self.old.state ≡ JournalState.Resting }
         requires room { self.old.chain.current.count < self.old.chain.current.max }
         requires follows { broken_field self.old.chain.current.newest fields.now ≡ None }
@@ -37,8 +37,8 @@ impl Journal {
         ensures spelled { Spells (image_of fields.now runs.now frames.now) self.new.prepared }
         ensures image { IsImage (image_of fields.now runs.now frames.now) }
         ensures words { (c : ℕ) → word_in_runs (filled frames.now runs.now) c ≡ listed_word runs.now frames.now c }
-        ensures keeps { (v : View) (rs : List Image) (written : List ℕ) → HoldsJournal self.old v rs written
-            → KeepsJournal self.new v rs (image_of fields.now runs.now frames.now) written }
+        ensures keeps { (rs : List Image) (written : List ℕ) → HoldsJournal self.old (D.view disk.now) rs written
+            → KeepsJournal self.new (D.view disk.now) rs (image_of fields.now runs.now frames.now) written }
     {
         make_record(&mut self.record, fields, runs, frames);
         self.state = JournalState::Appending;
