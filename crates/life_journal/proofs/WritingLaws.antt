@@ -1,25 +1,28 @@
 -- A record that is written one disk call at a time.
-use Rattle.std.proofs.Common.{◌≡◌, ◌≢◌, ◌<◌, ◌≤◌, ◌+◌, ◌*◌, refl, sym, ◌∙◌, ap, subst, inl, inr, Bool, cond, ℕ, List, [], ◌∷◌, ◌++◌, length, IsTrue, Option, Result, Ok, arith}
+use Rattle.std.proofs.Common.{◌≡◌, ◌≢◌, ◌<◌, ◌≤◌, ◌+◌, ◌-◌, ◌*◌, nat_lt, true, false, refl, sym, ◌∙◌, ap, subst, inl, inr, Bool, cond, ℕ, List, [], ◌∷◌, ◌++◌, length, IsTrue, Option, Result, Ok, arith}
 use Rattle.std.proofs.lemmas.Bool.{cases_lt}
 use Rattle.std.proofs.lemmas.Grind.{div_ceil_times}
 use Rattle.std.specs.Option.{option_or}
 use Rattle.ckpt_base.specs.declared.errors.Failed.{Failed}
 use Rattle.disk_model.specs.declared.disk_file.DiskFile.TheVariants.{Output, One, Two}
-use Rattle.disk_model.specs.View.{View, SameFile}
+use Rattle.disk_model.specs.Store.{Store}
+use Rattle.disk_model.specs.View.{View, IsDisk, SameFile}
 use Rattle.disk_model.specs.Moments.{Among, LeavesOnly}
+use Rattle.disk_model.proofs.Calls.{still, joined}
 use Rattle.image_format.specs.Image.{Image, word_in_runs}
 use Rattle.image_chain.specs.declared.chain.Current.{Current}
 use Rattle.image_chain.specs.declared.chain.Step.{Step}
 use Rattle.image_chain.specs.declared.chain.Step.TheVariants.{Piece, SyncRecord, OpenGate, SyncGate, Done}
 use Rattle.image_chain.specs.ChainView.{ChainView}
 use Rattle.image_chain.specs.Records.{broken_field}
-use Rattle.image_chain.specs.Append.{IsDue, IsDueNext, IsInside, SameCurrent, Spells, TakesOver, IfLast, next_of, due_after, pieces_of}
-use Rattle.image_chain.specs.Lists.{IsLeftIn, Makes, Promise, ReadsAfter}
+use Rattle.image_chain.specs.Append.{IsDue, IsDueNext, IsInside, SameCurrent, Spells, TakesOver, IfLast, next_of, due_after, pieces_of, writer_calls}
+use Rattle.image_chain.specs.Lists.{IsAppended, IsLeftIn, Makes, Promise, ReadsAfter}
 use Rattle.image_chain.specs.Memory.{Joined, kept_word}
 use Rattle.image_chain.proofs.BesideLaws.{due_beside}
 use Rattle.image_chain.proofs.KeptLaws.{memory_push}
 use Rattle.image_chain.proofs.LoopWords.{IsInsideOrDone}
-use Rattle.image_chain.proofs.LoopLaws.{rest_due, lt-yes, lt-no, inside_next, inside_due, same_next, due_is}
+use Rattle.image_chain.proofs.LoopLaws.{rest_due, lt-yes, lt-no, inside_next, inside_due, same_next, due_is, due_leaves, piece_no_gate}
+use Rattle.image_chain.proofs.StepLaws.{current_twice}
 use Rattle.coalesce.specs.Join.{IsContent}
 use Rattle.output_file.specs.Pushed.{Pushed}
 use Rattle.output_file.specs.OnDisk.{IsOutputOn}
@@ -146,3 +149,88 @@ under_way_next chain after bytes next more is due same h =
       follows = ap (λ (x : Current). broken_field x.newest h.image.fields) stays ∙ h.follows;
       inside = subst (λ (s : Step). IsInside s n) (sym at) (inside_due next n more (subst (λ (s : Step). IsInsideOrDone s n) (sym is) (inside_next chain.due n h.inside)));
     }
+
+-- ---- all calls of a record, one after another
+
+pub within_next : (at : Step) (n : ℕ) → IsInside at n → calls_before (next_of at n) n ≤ writer_calls n
+within_next (Piece i) n inside = elim (cases_lt (4096 * (i + 1)) n) [
+  | inl more ↦ let all = div_ceil_times n 4096 (omega arith) in subst (λ (b : Bool). calls_before (cond b (Piece (i + 1)) SyncRecord) n ≤ writer_calls n) (sym (lt-yes (4096 * (i + 1)) n more)) (omega (arith, all.0, all.1, more, inside))
+  | inr last ↦ subst (λ (b : Bool). calls_before (cond b (Piece (i + 1)) SyncRecord) n ≤ writer_calls n) (sym (lt-no (4096 * (i + 1)) n last)) (omega arith)
+]
+within_next SyncRecord n inside = omega arith
+within_next OpenGate n inside = omega arith
+within_next SyncGate n inside = omega arith
+within_next Done n inside = absurd inside
+
+-- the calls that are left, as a number that falls
+abbrev pub calls_left : JournalView → ℕ
+calls_left j = writer_calls (length j.prepared) - calls_before j.chain.due (length j.prepared)
+
+pub fewer_left : (j k : JournalView) (next : Step) → next ≢ Done → k.prepared ≡ j.prepared → k.chain.due ≡ due_after next
+    → calls_before next (length j.prepared) ≡ calls_before j.chain.due (length j.prepared) + 1 → calls_before next (length j.prepared) ≤ writer_calls (length j.prepared) → calls_left k < calls_left j
+fewer_left j k next more prepared due counted within =
+    subst (λ (b : List ℕ). writer_calls (length b) - calls_before k.chain.due (length b) < calls_left j) (sym prepared)
+    (subst (λ (s : Step). writer_calls (length j.prepared) - calls_before s (length j.prepared) < calls_left j) (sym (due ∙ due_is next more)) (omega (arith, counted, within)))
+
+pub goes_on_keeps : (next : Step) (j : JournalView) (v : View) (rs : List Image) (r : Image) (w : List ℕ) → next ≢ Done → GoesOn next j v rs r w → KeepsJournal j v rs r w
+goes_on_keeps (Piece i) j v rs r w more h = h
+goes_on_keeps SyncRecord j v rs r w more h = h
+goes_on_keeps OpenGate j v rs r w more h = h
+goes_on_keeps SyncGate j v rs r w more h = h
+goes_on_keeps Done j v rs r w more h = absurd (more refl)
+
+pub due_not_done : (next : Step) → due_after next ≢ Done
+due_not_done (Piece i) e = cc
+due_not_done SyncRecord e = cc
+due_not_done OpenGate e = cc
+due_not_done SyncGate e = cc
+due_not_done Done e = cc
+
+chosen_not : (b : Bool) (i : ℕ) → cond b (Piece i) SyncRecord ≢ Done
+chosen_not true i e = cc
+chosen_not false i e = cc
+
+pub more_same : (at : Step) (n : ℕ) (start chain after : Current) → chain ≡ start → SameCurrent at chain after → next_of at n ≢ Done → after ≡ start
+more_same (Piece i) n start chain after was is more = is ∙ was
+more_same SyncRecord n start chain after was is more = is ∙ was
+more_same OpenGate n start chain after was is more = is ∙ was
+more_same SyncGate n start chain after was is more = absurd (more refl)
+more_same Done n start chain after was is more = is ∙ was
+
+pub last_taken : (at : Step) (n : ℕ) (P : Type 0) → at ≢ Done → next_of at n ≡ Done → IfLast at P → P
+last_taken (Piece i) n P due last took = absurd (chosen_not (nat_lt (4096 * (i + 1)) n) (i + 1) last)
+last_taken SyncRecord n P due last took = absurd (due_not_done OpenGate last)
+last_taken OpenGate n P due last took = absurd (due_not_done SyncGate last)
+last_taken SyncGate n P due last took = took
+last_taken Done n P due last took = absurd (due refl)
+
+-- each outcome of one call, after what the calls before left
+appended_then : (at : Step) (chain : Current) (rs : List Image) (r : Image) (first d s : Store) → IsAppended chain rs r first d → IsLeftIn at chain rs r d s → IsAppended chain rs r first s
+appended_then (Piece i) chain rs r first d s was is = (inl is.0, current_twice chain first d s was.1 is.1)
+appended_then SyncRecord chain rs r first d s was is = (inl is.0, current_twice chain first d s was.1 is.1)
+appended_then OpenGate chain rs r first d s was is = (is.0, current_twice chain first d s was.1 is.1)
+appended_then SyncGate chain rs r first d s was is = (is.0, current_twice chain first d s was.1 is.1)
+appended_then Done chain rs r first d s was is = (inl is.0, current_twice chain first d s was.1 is.1)
+
+-- so many calls of a record are made, none of which was the last
+pub record WrittenSoFar (j k : JournalView) (u v : View) (rs : List Image) (r : Image) (w : List ℕ) : Type 0 where
+  pub keeps : KeepsJournal k v rs r w
+  pub moments : LeavesOnly u v (Among u.may_leave (IsAppended j.chain.current rs r))
+
+pub written_first : (j : JournalView) (u : View) (rs : List Image) (r : Image) (w : List ℕ) → IsTrue u.tells → IsDisk u → j.chain.due ≡ Piece 0 → KeepsJournal j u rs r w → WrittenSoFar j j u u rs r w
+written_first j u rs r w tells disk begun h = record {
+  keeps = h;
+  moments = still u (Among u.may_leave (IsAppended j.chain.current rs r)) (λ _. disk) (λ _. tells)
+      (λ _ c left. (c, left, (inl (due_leaves j.chain.current u rs j.prepared j.chain.due (λ e. piece_no_gate 0 (sym begun ∙ e)) h.due c left), record { output = refl; aside = refl })));
+}
+
+pub written_moments : (j k : JournalView) (u v x : View) (rs : List Image) (r : Image) (w : List ℕ) → IsTrue u.tells → k.chain.current ≡ j.chain.current → WrittenSoFar j k u v rs r w
+    → (KeepsJournal k v rs r w → LeavesOnly v x (Among v.may_leave (IsLeftIn k.chain.due k.chain.current rs r))) → LeavesOnly u x (Among u.may_leave (IsAppended j.chain.current rs r))
+written_moments j k u v x rs r w tells current so_far run =
+    let more : LeavesOnly v x (Among v.may_leave (IsLeftIn k.chain.due j.chain.current rs r)) = subst (λ (y : Current). LeavesOnly v x (Among v.may_leave (IsLeftIn k.chain.due y rs r))) current (run so_far.keeps) in
+    joined u v x (Among u.may_leave (IsAppended j.chain.current rs r)) (Among v.may_leave (IsLeftIn k.chain.due j.chain.current rs r)) (λ _. tells) so_far.moments more
+    (λ t s from. let was = so_far.moments.now t from.0 from.1 in (was.0, was.1, appended_then k.chain.due j.chain.current rs r was.0 from.0 s was.2 from.2))
+
+-- the record is taken over from the room in which it was prepared
+pub taken_since : (j k l : JournalView) → k.chain.current ≡ j.chain.current → k.prepared ≡ j.prepared → TakesRecord k l → TakesRecord j l
+taken_since j k l current prepared took = λ r spells. subst (λ (x : Current). HasOneMore x l.chain.current r.fields) current (took r (subst (Spells r) (sym prepared) spells))

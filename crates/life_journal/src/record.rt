@@ -53,11 +53,8 @@ impl Journal {
         ensures counts { OnOk result ((D.view disk.new).faults ≡ (D.view disk.old).faults) }
         ensures steady { Steady (D.view disk.old) (D.view disk.new) }
     {
-        make_record(&mut self.record, fields, runs, frames);
-        self.state = JournalState::Spent;
-        self.chain.append(disk, self.record.as_slice())?;
-        self.state = JournalState::Resting;
-        keep_record(&mut self.kept, self.record.as_slice());
+        self.prepare(disk, fields, runs, frames);
+        self.write_all(disk)?;
         Ok(())
     }
 }

@@ -1,12 +1,12 @@
 //! A record that is prepared, and then written one disk call at a time.
-ghost use Rattle.std.specs.Prelude.{◌≡◌, ◌+◌, ◌<◌, List, ℕ, None, IsTrue, IfOk, OnOk, OnErr, length};
+ghost use Rattle.std.specs.Prelude.{◌≡◌, ◌+◌, ◌<◌, ◌≤◌, [], ◌∷◌, ◌++◌, List, ℕ, None, IsTrue, IfOk, OnOk, OnErr, length};
 ghost use Rattle.ckpt_base.specs.Faults.{Rose};
 ghost use Rattle.disk_model.specs.View.{Steady};
 ghost use Rattle.disk_model.specs.Moments.{Among, LeavesOnly};
 ghost use Rattle.image_format.specs.Image.{Image, InRange, IsImage, word_in_runs};
 ghost use Rattle.image_format.specs.Written.{AreListed, HasCells, image_of, filled, listed_word};
-ghost use Rattle.image_chain.specs.Append.{IfLast, SameCurrent, Spells, next_of, due_after};
-ghost use Rattle.image_chain.specs.Lists.{IsLeftIn, ReadsAfter};
+ghost use Rattle.image_chain.specs.Append.{IfLast, SameCurrent, Spells, next_of, due_after, writer_calls};
+ghost use Rattle.image_chain.specs.Lists.{IsAppended, IsLeftIn, ReadsAfter};
 ghost use Rattle.image_chain.specs.Records.{broken_field};
 ghost use Rattle.life_journal.specs.Holding.{HoldsJournal};
 ghost use Rattle.life_journal.specs.Recorded.{TakesRecord};
@@ -52,6 +52,7 @@ impl Journal {
         ensures order { IfOk result (λ next. next ≡ next_of self.old.chain.due (length self.old.prepared)) }
         ensures due { IfOk result (λ next. self.new.chain.due ≡ due_after next) }
         ensures counted { IfOk result (λ next. calls_before next (length self.old.prepared) ≡ calls_before self.old.chain.due (length self.old.prepared) + 1) }
+        ensures within { IfOk result (λ next. calls_before next (length self.old.prepared) ≤ writer_calls (length self.old.prepared)) }
         ensures state { IfOk result (λ next. self.new.state ≡ state_at next) }
         ensures same { (self.new.output ≡ self.old.output) × (self.new.prepared ≡ self.old.prepared) }
         ensures chain { SameCurrent self.old.chain.due self.old.chain.current self.new.chain.current }
@@ -77,5 +78,29 @@ impl Journal {
         }
         self.state = JournalState::Appending;
         Ok(next)
+    }
+
+    // Makes all disk calls of the record that was prepared, one after another.
+    pub(crate) fn write_all<D: Disk>(&mut self, disk: &mut D) -> Result<(), Failed>
+        requires whole { self.old.state ≡ JournalState.Appending }
+        requires begun { self.old.chain.due ≡ Step.Piece 0 }
+        requires fits { FitsWriting self.old (D.view disk.old) }
+        ensures whole { OnOk result (self.new.state ≡ JournalState.Resting) }
+        ensures same { self.new.output ≡ self.old.output }
+        ensures took { OnOk result (TakesRecord self.old self.new) }
+        ensures holds { OnOk result (IsTrue (D.view disk.old).tells → (rs : List Image) (r : Image) (written : List ℕ)
+            → KeepsJournal self.old (D.view disk.old) rs r written → HoldsJournal self.new (D.view disk.new) (rs ++ r ∷ []) written) }
+        ensures any_moment { IsTrue (D.view disk.old).tells → (rs : List Image) (r : Image) (written : List ℕ) → KeepsJournal self.old (D.view disk.old) rs r written
+            → LeavesOnly (D.view disk.old) (D.view disk.new) (Among (D.view disk.old).may_leave (IsAppended self.old.chain.current rs r)) }
+        ensures failed { OnErr result (Rose (D.view disk.old).faults (D.view disk.new).faults) }
+        ensures counts { OnOk result ((D.view disk.new).faults ≡ (D.view disk.old).faults) }
+        ensures steady { Steady (D.view disk.old) (D.view disk.new) }
+    {
+        'calls: loop {
+            let next = self.write_call(disk)?;
+            if let Step::Done = next {
+                return Ok(());
+            }
+        }
     }
 }
