@@ -1,5 +1,5 @@
 -- A record that is written one disk call at a time.
-use Rattle.std.proofs.Common.{◌≡◌, ◌≢◌, ◌<◌, ◌≤◌, ◌+◌, ◌-◌, ◌*◌, nat_lt, true, false, refl, sym, ◌∙◌, ap, subst, inl, inr, Bool, cond, ℕ, List, [], ◌∷◌, ◌++◌, length, IsTrue, Option, Result, Ok, arith}
+use Rattle.std.proofs.Common.{◌≡◌, ◌≢◌, ◌<◌, ◌≤◌, ◌+◌, ◌-◌, ◌*◌, nat_lt, true, false, refl, sym, ◌∙◌, ap, subst, inl, inr, Bool, cond, ℕ, List, length, IsTrue, Option, Result, Ok, arith}
 use Rattle.std.proofs.lemmas.Bool.{cases_lt}
 use Rattle.std.proofs.lemmas.Grind.{div_ceil_times}
 use Rattle.std.specs.Option.{option_or}
@@ -15,7 +15,7 @@ use Rattle.image_chain.specs.declared.chain.Step.{Step}
 use Rattle.image_chain.specs.declared.chain.Step.TheVariants.{Piece, SyncRecord, OpenGate, SyncGate, Done}
 use Rattle.image_chain.specs.ChainView.{ChainView}
 use Rattle.image_chain.specs.Records.{broken_field}
-use Rattle.image_chain.specs.Append.{IsDue, IsDueNext, IsInside, SameCurrent, Spells, TakesOver, IfLast, next_of, due_after, pieces_of, writer_calls}
+use Rattle.image_chain.specs.Append.{IsDue, IsInside, SameCurrent, Spells, TakesOver, IfLast, next_of, due_after, writer_calls}
 use Rattle.image_chain.specs.Lists.{IsAppended, IsLeftIn, Makes, Promise, ReadsAfter}
 use Rattle.image_chain.specs.Memory.{Joined, kept_word}
 use Rattle.image_chain.proofs.BesideLaws.{due_beside}

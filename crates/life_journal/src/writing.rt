@@ -22,8 +22,9 @@ use image_format::Fields;
 use page_frames::Frames;
 
 impl Journal {
-    /// Makes the record of the image that lists the cells of the runs with their words, with no call on the disk; `write_call` writes it,
-    /// behind the records so far, among which there is room for it. What the record says follows what the newest one says.
+    /// Makes the record of the image that lists the cells of the runs with their words, with no call on the disk on which the journal
+    /// stands; `write_call` writes it, behind the records so far, among which there is room for it. What the record says follows what the
+    /// newest one says.
     pub fn prepare<D: Disk>(&mut self, disk: &D, fields: &Fields, runs: &[Run], frames: &Frames)
         requires whole { self.old.state ≡ JournalState.Resting }
         requires room { self.old.chain.current.count < self.old.chain.current.max }

@@ -1,7 +1,5 @@
-use Rattle.std.proofs.Common.{◌∙◌, refl, sym, ap, subst, ℕ, List, IsTrue}
-use Rattle.life_journal.specs.JournalView.{JournalView}
+use Rattle.std.proofs.Common.{subst}
 use Rattle.image_format.specs.Written.{image_of}
-use Rattle.image_chain.specs.declared.chain.Current.{Current}
 use Rattle.disk_model.specs.Moments.{Among, LeavesOnly}
 use Rattle.image_chain.specs.Lists.{IsAppended}
 use Rattle.image_chain.specs.ChainView.{ChainView}

@@ -1,10 +1,7 @@
-use Rattle.std.proofs.Common.{◌≡◌, ◌∙◌, refl, sym, ap, subst, ℕ, List, ◌∷◌, [], ◌++◌, IsTrue, arith}
+use Rattle.std.proofs.Common.{◌∙◌, refl, sym, ap, subst, IsTrue, arith}
 use Rattle.disk_model.proofs.Calls.{steady_twice}
-use Rattle.ckpt_base.specs.Faults.{Rose}
-use Rattle.image_format.specs.Image.{Image}
 use Rattle.image_chain.specs.declared.chain.Step.{Step}
 use Rattle.image_chain.specs.declared.chain.Step.TheVariants.{Piece}
-use Rattle.life_journal.specs.declared.journal.JournalState.{JournalState}
 use Rattle.life_journal.specs.Writing.{GoesOn, state_at}
 use Rattle.life_journal.proofs.WritingLaws.{due_not_done, fewer_left, goes_on_keeps, last_taken, more_same, state_more, taken_since, written_first, written_moments}
 use Rattle.life_journal.proofs.journal.Journal.write_all.Goals as goal

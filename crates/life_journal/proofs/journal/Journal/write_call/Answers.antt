@@ -1,4 +1,4 @@
-use Rattle.std.proofs.Common.{◌≡◌, ◌∙◌, refl, sym, ap, subst, ℕ, List, IsTrue}
+use Rattle.std.proofs.Common.{◌∙◌, refl, sym, ap, subst, ℕ, List, IsTrue}
 use Rattle.disk_model.specs.Moments.{Among, LeavesOnly}
 use Rattle.image_format.specs.Image.{Image}
 use Rattle.image_chain.specs.Append.{Spells}
@@ -8,7 +8,7 @@ use Rattle.coalesce.proofs.JoinLaws.{one_spelled}
 use Rattle.life_journal.specs.JournalView.{JournalView}
 use Rattle.life_journal.specs.Writing.{KeepsJournal}
 use Rattle.life_journal.specs.contracts.journal.Journal.{the_view}
-use Rattle.life_journal.proofs.WritingLaws.{call_moments, call_reads, call_ends, call_goes_on, counted_next, not_taken, state_more, under_way_next}
+use Rattle.life_journal.proofs.WritingLaws.{call_moments, call_ends, call_goes_on, state_more}
 use Rattle.life_journal.proofs.journal.Journal.write_call.Goals as goal
 
 pub append_call-requires-clause-follows : goal.append_call-requires-clause-follows
