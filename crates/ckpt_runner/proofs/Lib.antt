@@ -54,3 +54,5 @@ pub mod StandingThen
 pub mod GoodTaking
 -- a store that stands is opened
 pub mod GoodOpening
+-- the sums of a pace
+pub mod PaceLaws

@@ -5,8 +5,11 @@ use Rattle.disk_model.specs.View.{View}
 use Rattle.image_format.specs.Image.{Image}
 use Rattle.image_chain.specs.declared.chain.Chain.{Chain}
 use Rattle.output_file.specs.Pushed.{length_of}
+use Rattle.life_journal.specs.declared.journal.JournalState.TheVariants.{Resting}
 use Rattle.life_journal.specs.JournalView.{JournalView}
 use Rattle.life_journal.specs.Holding.{HoldsJournal}
+use Rattle.life_journal.specs.Holding as journal
+use Rattle.life_journal.specs.Writing.{FitsOutput}
 use Rattle.run_images.specs.Since.{Since, since_after, is_page_fresh}
 use Rattle.run_images.specs.Origin.{Origin, taking_by}
 use Rattle.ckpt_runner.specs.LifeView.{LifeView, Idle}
@@ -22,6 +25,10 @@ use Rattle.ckpt_runner.proofs.GoodCalls.{bytes_good}
 
 abbrev pub put : LifeView → JournalView → LifeView
 put life j = record life { journal = j; failed = false }
+
+-- the output of a journal that fits its disk
+pub output_fits : (j : JournalView) (v : View) → journal.FitsDisk j v → FitsOutput j v
+output_fits j v fits told = let f = fits told in (f.1, f.2.output)
 
 -- what fits its disk, by the journal alone
 pub serving_fits : (shown : List Event) (life : LifeView) (v : View) → life.writer ≡ Idle → FitsServing shown life v → IsTrue v.tells → (rs : List Image) × (w : List ℕ) × HoldsJournal life.journal v rs w
@@ -62,6 +69,6 @@ put_serves o es bytes more life old j u v is same idle chain count lasting run h
     subst (λ (l : LifeView). Serves o es (map Byte bytes) l u (put life j) v) is
     (subst (λ (xs : List ℕ). Serves o es (map Byte xs) life u (put life j) v) same (serves_all o es more life j u v idle chain count lasting run holds))
 
-pub put_sound : (life : LifeView) (j : JournalView) (more : List ℕ) → life.failed ≡ false → IsSoundLife life → j.chain ≡ life.journal.chain → j.spent ≡ false → length_of j.output ≡ length_of life.journal.output + length more → IsSoundLife (put life j)
+pub put_sound : (life : LifeView) (j : JournalView) (more : List ℕ) → life.failed ≡ false → IsSoundLife life → j.chain ≡ life.journal.chain → j.state ≡ Resting → length_of j.output ≡ length_of life.journal.output + length more → IsSoundLife (put life j)
 put_sound life j more live s chain whole count =
     journal_sound (record life { failed = false }) j (subst (λ (b : Bool). IsSoundLife (record life { failed = b })) live s) chain (λ _. whole) (omega (arith, count))

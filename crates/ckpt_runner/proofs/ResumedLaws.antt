@@ -25,6 +25,7 @@ use Rattle.paged_machine.specs.MachineView.{MachineView}
 use Rattle.paged_machine.specs.Fitting.{FitTogether}
 use Rattle.paged_machine.specs.Standing.{StandsIn}
 use Rattle.compiled_program.specs.CanRun.{CanRun}
+use Rattle.life_journal.specs.declared.journal.JournalState.TheVariants.{Resting}
 use Rattle.life_journal.specs.Holding.{HoldsJournal}
 use Rattle.run_images.specs.Images.{TakenImage, since_behind}
 use Rattle.run_images.specs.JoinedList.{IsJoinedList}
@@ -210,7 +211,7 @@ one_newest : (x : Option Fields) (f newest : Fields) → x ≡ Some newest → x
 one_newest x f newest a b = let e : Some newest ≡ Some f = sym a ∙ b in cc
 
 pub resumed_sound : (g : Given) (life : LifeView) (kept : Joined) (fill : ℕ) (newest : Fields) → IsResumedLife life kept fill newest → Restarts g kept newest → g.compiled ≡ life.compiled → g.marks ≡ life.marks → g.input ≡ life.input
-    → CanRun life.compiled → StandsIn life.compiled.code life.machine → FitTogether life.compiled.code life.frames life.pages → length life.input ≤ 16777216 → life.journal.spent ≡ false → life.journal.chain.current.newest ≡ Some newest → IsSoundLife life
+    → CanRun life.compiled → StandsIn life.compiled.code life.machine → FitTogether life.compiled.code life.frames life.pages → length life.input ≤ 16777216 → life.journal.state ≡ Resting → life.journal.chain.current.newest ≡ Some newest → IsSoundLife life
 resumed_sound g life kept fill newest is restarts compiled marks input runs stands fit short whole newest_is =
     let taken : newest.input_place ≤ length life.input = subst (λ (l : List ℕ). newest.input_place ≤ length l) input restarts.input_place in
     let place : newest.input_place ≡ life.progress.input_place = ap (λ (p : Progress). p.input_place) (sym is.progress) in

@@ -1,5 +1,5 @@
 -- What a life keeps of itself goes on.
-use Rattle.std.proofs.Common.{◌≡◌, sym, ◌∙◌, ap, subst, ℕ, ◌≤◌, Bool, true, false, List, length, get_or, arith}
+use Rattle.std.proofs.Common.{◌≡◌, ◌≢◌, sym, ◌∙◌, ap, subst, ℕ, ◌≤◌, Bool, true, false, List, length, get_or, arith}
 use Rattle.std.specs.Prelude.{slice_set}
 use Rattle.std.proofs.lemmas.List.{length-set}
 use Rattle.dirty_pages.specs.Pages.{PageStates, served}
@@ -8,10 +8,19 @@ use Rattle.output_file.specs.Pushed.{Pushed, length_of, flushed}
 use Rattle.paged_machine.specs.MachineView.{MachineView}
 use Rattle.paged_machine.specs.Fitting.{FitTogether}
 use Rattle.paged_machine.specs.Standing.{StandsIn}
+use Rattle.life_journal.specs.declared.journal.JournalState.{JournalState}
+use Rattle.life_journal.specs.declared.journal.JournalState.TheVariants.{Resting, Spent}
 use Rattle.life_journal.specs.JournalView.{JournalView}
 use Rattle.run_images.specs.Compiled.{cells_in}
 use Rattle.ckpt_runner.specs.LifeView.{LifeView}
 use Rattle.ckpt_runner.specs.SoundLife.{IsSoundLife}
+
+-- a journal that rests has not failed
+pub rests_whole : (s : JournalState) → s ≡ Resting → s ≢ Spent
+rests_whole s rests spent = spent_not (sym rests ∙ spent)
+  where
+    spent_not : Resting ≡ Spent → ⊥
+    spent_not e = cc
 
 -- a run of instructions
 pub moved_sound : (life : LifeView) (m : MachineView) (n : List ℕ) (pages : PageStates) → IsSoundLife life → StandsIn life.compiled.code m → FitTogether life.compiled.code n pages → length pages.dirty ≡ length life.pages.dirty → pages.in_snapshot ≡ life.pages.in_snapshot
@@ -33,7 +42,7 @@ moved_sound life m n pages s stands fit same snapshot =
     }
 
 -- a journal whose chain is as it was, and whose output is no shorter
-pub journal_sound : (life : LifeView) (j : JournalView) → IsSoundLife life → j.chain ≡ life.journal.chain → (life.failed ≡ false → j.spent ≡ false) → length_of life.journal.output ≤ length_of j.output → IsSoundLife (record life { journal = j })
+pub journal_sound : (life : LifeView) (j : JournalView) → IsSoundLife life → j.chain ≡ life.journal.chain → (life.failed ≡ false → j.state ≡ Resting) → length_of life.journal.output ≤ length_of j.output → IsSoundLife (record life { journal = j })
 journal_sound life j s chain whole longer = record {
   runs = s.runs;
   stands = s.stands;
@@ -119,6 +128,6 @@ excluded_sound life k le s = record {
 }
 
 -- a life that was finished
-pub ended_sound : (life : LifeView) (j : JournalView) → life.failed ≡ false → IsSoundLife life → j.chain ≡ life.journal.chain → j.spent ≡ false → length_of life.journal.output ≤ length_of j.output → IsSoundLife (record life { journal = j; failed = false; finished = true })
+pub ended_sound : (life : LifeView) (j : JournalView) → life.failed ≡ false → IsSoundLife life → j.chain ≡ life.journal.chain → j.state ≡ Resting → length_of life.journal.output ≤ length_of j.output → IsSoundLife (record life { journal = j; failed = false; finished = true })
 ended_sound life j live s chain whole longer =
     journal_sound (record life { failed = false; finished = true }) j (finished_sound (record life { failed = false }) (subst (λ (b : Bool). IsSoundLife (record life { failed = b })) live s)) chain (λ _. whole) longer

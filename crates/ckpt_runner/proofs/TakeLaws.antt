@@ -20,6 +20,7 @@ use Rattle.image_format.specs.Written.{AreListed, HasCells, image_of, filled, li
 use Rattle.image_chain.specs.Records.{broken_field}
 use Rattle.output_file.specs.Pushed.{length_of}
 use Rattle.output_file.specs.OnDisk.{IsOnDisk}
+use Rattle.life_journal.specs.declared.journal.JournalState.TheVariants.{Resting}
 use Rattle.life_journal.specs.JournalView.{JournalView}
 use Rattle.life_journal.specs.Holding.{HoldsJournal}
 use Rattle.life_journal.specs.Holding as journal
@@ -230,7 +231,7 @@ same_some f g e = cc
 none_some : (f : Fields) → None ≡ Some f → ⊥
 none_some f e = cc
 
-imaged_sound : (life : LifeView) (j : JournalView) (f : Fields) (node tick n : ℕ) → IsSoundLife life → j.spent ≡ false → j.chain.current.newest ≡ Some f → f ≡ fields_at life.marks node tick (since_of life.progress n) → n ≡ length_of j.output
+imaged_sound : (life : LifeView) (j : JournalView) (f : Fields) (node tick n : ℕ) → IsSoundLife life → j.state ≡ Resting → j.chain.current.newest ≡ Some f → f ≡ fields_at life.marks node tick (since_of life.progress n) → n ≡ length_of j.output
     → IsSoundLife (imaged life j tick)
 imaged_sound life j f node tick n s whole newest is output =
     let size : length (replicate (length life.pages.dirty) false) ≡ length life.pages.dirty = length-replicate (length life.pages.dirty) false in
@@ -256,7 +257,7 @@ imaged_sound life j f node tick n s whole newest is output =
           };
     }
 
-pub image_sound : (life : LifeView) (j : JournalView) (p : Progress) (pages : PageStates) (f : Fields) (node tick n : ℕ) → IsSoundLife life → p ≡ raised life.progress tick → pages ≡ protected life.pages → j.spent ≡ false
+pub image_sound : (life : LifeView) (j : JournalView) (p : Progress) (pages : PageStates) (f : Fields) (node tick n : ℕ) → IsSoundLife life → p ≡ raised life.progress tick → pages ≡ protected life.pages → j.state ≡ Resting
     → j.chain.current.newest ≡ Some f → f ≡ fields_at life.marks node tick (since_of life.progress n) → n ≡ length_of j.output → IsSoundLife (record life { journal = j; progress = p; pages = pages; failed = false })
 image_sound life j p pages f node tick n s progress protects whole newest is output =
     subst (λ (x : Progress). IsSoundLife (record life { journal = j; progress = x; pages = pages; failed = false })) (sym progress)

@@ -30,3 +30,7 @@ pub mod Good
 pub mod JournalCalls
 -- what calls keep of a store that stands
 pub mod Standing
+-- the memory of a checkpoint, kept while the program runs on
+pub mod Snapshot
+-- the pace of the writer
+pub mod Pace

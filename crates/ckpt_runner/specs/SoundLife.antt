@@ -6,6 +6,7 @@ use Rattle.output_file.specs.Pushed.{length_of}
 use Rattle.paged_machine.specs.Fitting.{FitTogether}
 use Rattle.paged_machine.specs.Standing.{StandsIn}
 use Rattle.run_images.specs.Compiled.{cells_in}
+use Rattle.life_journal.specs.declared.journal.JournalState.TheVariants.{Resting}
 use Rattle.compiled_program.specs.CanRun.{CanRun}
 use Rattle.ckpt_runner.specs.LifeView.{LifeView}
 
@@ -30,6 +31,6 @@ pub record IsSoundLife (life : LifeView) : Type 0 where
   pub short : length life.input ≤ 16777216
   pub taken : life.progress.input_place ≤ length life.input
   -- until a call fails, the journal's newest record is of the newest image
-  pub whole : life.failed ≡ false → life.journal.spent ≡ false
+  pub whole : life.failed ≡ false → life.journal.state ≡ Resting
   pub none_yet : life.failed ≡ false → life.journal.chain.current.newest ≡ None → life.progress.number ≡ 0
   pub newest : life.failed ≡ false → (f : Fields) → life.journal.chain.current.newest ≡ Some f → IsBehindNewest life f

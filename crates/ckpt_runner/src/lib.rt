@@ -11,6 +11,7 @@
 #![tactic(auto)]
 
 mod beginning;
+mod copies;
 mod finishing;
 mod giving;
 mod going;
@@ -20,6 +21,7 @@ mod laws;
 mod life;
 mod memory;
 mod opening;
+mod pace_laws;
 mod progress;
 mod resuming;
 mod rooms;
@@ -32,6 +34,7 @@ pub use how::{How, Mode};
 pub use image::{fields_of, find_cells};
 pub use laws::{images_are_kept, lives_go_on};
 pub use life::Life;
+pub use pace_laws::calls_come_by_sums;
 pub use progress::Progress;
 pub use standing_laws::{
     beginnings_lose_no_image, begun_lives_are_good, bytes_keep_good, calls_lose_no_image,

@@ -19,7 +19,7 @@ use crate::life::Life;
 use cell_sets::RunList;
 use ckpt_base::Failed;
 use disk_model::Disk;
-use life_journal::Journal;
+use life_journal::{Journal, JournalState};
 use run_images::images_of_lives_stand;
 
 impl<'a> Life<'a> {
@@ -97,9 +97,9 @@ fn make_ready<D: Disk>(
     disk: &mut D,
     runs: &mut RunList,
 ) -> Result<(), Failed>
-    requires whole { journal.old.spent ≡ false }
+    requires whole { journal.old.state ≡ JournalState.Resting }
     requires fits { FitsDisk journal.old (D.view disk.old) }
-    ensures whole { OnOk result (journal.new.spent ≡ false) }
+    ensures whole { OnOk result (journal.new.state ≡ JournalState.Resting) }
     ensures flushed { OnOk result (journal.new.output ≡ flushed journal.old.output) }
     ensures written { OnOk result (length_of journal.new.output ≡ length_of journal.old.output) }
     ensures room { OnOk result (journal.new.chain.current.count < journal.new.chain.current.max) }

@@ -6,3 +6,5 @@ pub mod PushLaws
 pub mod HoldLaws
 -- a journal that goes on behind an output that is cut
 pub mod ResumeLaws
+-- a record that is written call by call
+pub mod WritingLaws

@@ -1,5 +1,5 @@
 //! How a journal begins.
-ghost use Rattle.std.specs.Prelude.{◌≡◌, ◌≤◌, false, [], ℕ, None, Ok, IsTrue, IfOk, OnOk, OnErr};
+ghost use Rattle.std.specs.Prelude.{◌≡◌, ◌≤◌, [], ℕ, None, Ok, IsTrue, IfOk, OnOk, OnErr};
 ghost use Rattle.ckpt_base.specs.Faults.{Rose};
 ghost use Rattle.disk_model.specs.Store.{Store};
 ghost use Rattle.disk_model.specs.View.{Steady};
@@ -10,7 +10,7 @@ ghost use Rattle.output_file.specs.Pushed.{begun_behind};
 ghost use Rattle.life_journal.specs.Holding.{HoldsJournal};
 ghost use Rattle.life_journal.specs.Begun.{HasNoChain};
 
-use crate::journal::{Journal, JournalRooms};
+use crate::journal::{Journal, JournalRooms, JournalState};
 use ckpt_base::Failed;
 use disk_model::Disk;
 use image_chain::Chain;
@@ -30,7 +30,7 @@ impl Journal {
         requires most { max ≤ 64 }
         requires empty { (c : ℕ) → kept_word rooms.kept c ≡ None }
         requires none { IsTrue (D.view disk.old).tells → (c : Store) → (D.view disk.old).may_leave c → chain_in c ≡ Ok None }
-        ensures whole { IfOk result (λ j. j.spent ≡ false) }
+        ensures whole { IfOk result (λ j. j.state ≡ JournalState.Resting) }
         ensures chain { IfOk result (λ j. (j.chain.current.every ≡ every) × (j.chain.current.newest ≡ None)) }
         ensures output { IfOk result (λ j. j.output ≡ begun_behind 0) }
         ensures holds { IfOk result (λ j. IsTrue (D.view disk.old).tells → HoldsJournal j (D.view disk.new) [] []) }
@@ -46,7 +46,7 @@ impl Journal {
             kept: rooms.kept,
             output: rooms.output,
             record: rooms.record,
-            spent: false,
+            state: JournalState::Resting,
         })
     }
 }

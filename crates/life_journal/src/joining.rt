@@ -1,5 +1,5 @@
 //! Room for one record more.
-ghost use Rattle.std.specs.Prelude.{◌≡◌, false, ◌<◌, List, ℕ, IsTrue, OnOk, OnErr};
+ghost use Rattle.std.specs.Prelude.{◌≡◌, ◌<◌, List, ℕ, IsTrue, OnOk, OnErr};
 ghost use Rattle.ckpt_base.specs.Faults.{Rose};
 ghost use Rattle.disk_model.specs.View.{Steady};
 ghost use Rattle.disk_model.specs.Moments.{Among, LeavesOnly};
@@ -7,7 +7,7 @@ ghost use Rattle.image_format.specs.Image.{Image};
 ghost use Rattle.life_journal.specs.Holding.{HoldsJournal, FitsDisk};
 ghost use Rattle.life_journal.specs.Joining.{StayOrJoin, MayBeJoined};
 
-use crate::journal::Journal;
+use crate::journal::{Journal, JournalState};
 use cell_sets::RunList;
 use ckpt_base::Failed;
 use coalesce::join;
@@ -16,9 +16,9 @@ use disk_model::Disk;
 impl Journal {
     /// Joins the records of the chain into one where it is full, so that there is room for a record. `runs` holds anything then.
     pub fn make_room<D: Disk>(&mut self, disk: &mut D, runs: &mut RunList) -> Result<(), Failed>
-        requires whole { self.old.spent ≡ false }
+        requires whole { self.old.state ≡ JournalState.Resting }
         requires fits { FitsDisk self.old (D.view disk.old) }
-        ensures whole { OnOk result (self.new.spent ≡ false) }
+        ensures whole { OnOk result (self.new.state ≡ JournalState.Resting) }
         ensures same { self.new.output ≡ self.old.output }
         ensures room { OnOk result (self.new.chain.current.count < self.new.chain.current.max) }
         ensures newest { OnOk result (self.new.chain.current.newest ≡ self.old.chain.current.newest) }
@@ -34,9 +34,9 @@ impl Journal {
         if self.chain.count() < self.chain.max() {
             return Ok(());
         }
-        self.spent = true;
+        self.state = JournalState::Spent;
         join(&mut self.chain, disk, &self.kept, &mut self.record, runs)?;
-        self.spent = false;
+        self.state = JournalState::Resting;
         Ok(())
     }
 }

@@ -40,27 +40,39 @@ impl JournalRooms {
     }
 }
 
-/// The chain of a life with its joined content, and its output. Contracts see the three, and whether a call has failed.
+/// Whether a record is under way.
+#[derive(Clone, Copy, Debug, PartialEq, Eq)]
+pub enum JournalState {
+    /// No record is under way: the chain is at rest.
+    Resting,
+    /// A record is prepared, or written in part.
+    Appending,
+    /// A call has failed: what is kept says nothing of the disk.
+    Spent,
+}
+
+/// The chain of a life with its joined content, and its output. Contracts see the three, whether a record is under way, and its bytes.
 #[derive(Drop)]
 pub struct Journal {
     pub(crate) chain: Chain,
     pub(crate) kept: Kept,
     pub(crate) output: Output,
     pub(crate) record: Bytes,
-    /// Whether a call has failed: what is kept then says nothing of the disk.
-    pub(crate) spent: bool,
+    pub(crate) state: JournalState,
 }
 
 impl Model for Journal {
-    ghost use Rattle.std.specs.Prelude.{◌≡◌, ◌≤◌, ◌+◌, length, false, IsTrue};
+    ghost use Rattle.std.specs.Prelude.{◌≡◌, ◌≢◌, ◌≤◌, ◌+◌, length, IsTrue};
     ghost use Rattle.image_chain.specs.declared.chain.Step.TheVariants.{Piece};
+    ghost use Rattle.life_journal.specs.declared.journal.JournalState.TheVariants.{Resting, Appending, Spent};
     ghost use Rattle.life_journal.specs.JournalView.{JournalView};
+    ghost use Rattle.life_journal.specs.Writing.{IsUnderWay};
 
     ghost Value = { JournalView };
 
-    ghost view = { λ j. record { chain = j.chain; kept = j.kept; output = j.output; spent = j.spent } };
+    ghost view = { λ j. record { chain = j.chain; kept = j.kept; output = j.output; state = j.state; prepared = j.record.list } };
 
-    ghost invariant = { λ j. record { rest : j.spent ≡ false → j.chain.due ≡ Piece 0; begun : j.spent ≡ false → IsTrue j.output.begun; room : 2097269 ≤ j.record.spare + length j.record.list } };
+    ghost invariant = { λ j. record { rest : j.state ≡ Resting → j.chain.due ≡ Piece 0; under_way : j.state ≡ Appending → IsUnderWay j.chain j.record.list; begun : j.state ≢ Spent → IsTrue j.output.begun; room : 2097269 ≤ j.record.spare + length j.record.list } };
 }
 
 impl Journal {

@@ -1,5 +1,5 @@
 //! The record of an image, written and kept.
-ghost use Rattle.std.specs.Prelude.{◌≡◌, false, ◌+◌, ◌<◌, ◌≤◌, ◌++◌, ◌∷◌, [], List, ℕ, length, Some, None, IsTrue, OnOk, OnErr};
+ghost use Rattle.std.specs.Prelude.{◌≡◌, ◌+◌, ◌<◌, ◌≤◌, ◌++◌, ◌∷◌, [], List, ℕ, length, Some, None, IsTrue, OnOk, OnErr};
 ghost use Rattle.std.specs.Option.{option_or};
 ghost use Rattle.ckpt_base.specs.Faults.{Rose};
 ghost use Rattle.disk_model.specs.View.{Steady};
@@ -13,7 +13,7 @@ ghost use Rattle.image_chain.specs.Records.{broken_field};
 ghost use Rattle.life_journal.specs.Holding.{HoldsJournal, FitsDisk};
 ghost use Rattle.life_journal.specs.Recorded.{HasOneMore};
 
-use crate::journal::Journal;
+use crate::journal::{Journal, JournalState};
 use cell_sets::Run;
 use ckpt_base::{Bytes, Failed};
 use disk_model::Disk;
@@ -33,14 +33,14 @@ impl Journal {
         runs: &[Run],
         frames: &Frames,
     ) -> Result<(), Failed>
-        requires whole { self.old.spent ≡ false }
+        requires whole { self.old.state ≡ JournalState.Resting }
         requires fits { FitsDisk self.old (D.view disk.old) }
         requires room { self.old.chain.current.count < self.old.chain.current.max }
         requires follows { broken_field self.old.chain.current.newest fields.now ≡ None }
         requires ranges { InRange fields.now }
         requires rising { AreListed runs.now }
         requires cells { HasCells frames.now runs.now }
-        ensures whole { OnOk result (self.new.spent ≡ false) }
+        ensures whole { OnOk result (self.new.state ≡ JournalState.Resting) }
         ensures same { self.new.output ≡ self.old.output }
         ensures took { OnOk result (HasOneMore self.old.chain.current self.new.chain.current fields.now) }
         ensures image { IsImage (image_of fields.now runs.now frames.now) }
@@ -53,17 +53,14 @@ impl Journal {
         ensures counts { OnOk result ((D.view disk.new).faults ≡ (D.view disk.old).faults) }
         ensures steady { Steady (D.view disk.old) (D.view disk.new) }
     {
-        make_record(&mut self.record, fields, runs, frames);
-        self.spent = true;
-        self.chain.append(disk, self.record.as_slice())?;
-        self.spent = false;
-        keep_record(&mut self.kept, self.record.as_slice());
+        self.prepare(disk, fields, runs, frames);
+        self.write_all(disk)?;
         Ok(())
     }
 }
 
 // Makes the record of an image.
-fn make_record(record: &mut Bytes, fields: &Fields, runs: &[Run], frames: &Frames)
+pub(crate) fn make_record(record: &mut Bytes, fields: &Fields, runs: &[Run], frames: &Frames)
     requires room { 2097269 ≤ record.old.spare + length record.old.list }
     requires ranges { InRange fields.now }
     requires rising { AreListed runs.now }
@@ -77,7 +74,7 @@ fn make_record(record: &mut Bytes, fields: &Fields, runs: &[Run], frames: &Frame
 }
 
 // Keeps what a record lists.
-fn keep_record(kept: &mut Kept, record: &[u8])
+pub(crate) fn keep_record(kept: &mut Kept, record: &[u8])
     ensures { (r : Image) → Spells r record.now → (c : ℕ) → kept_word kept.new c ≡ option_or (word_in_runs r.runs c) (kept_word kept.old c) }
 {
     match read_record(record) {

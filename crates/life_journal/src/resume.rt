@@ -1,5 +1,5 @@
 //! How a journal goes on.
-ghost use Rattle.std.specs.Prelude.{◌≡◌, false, List, take, IsTrue, IfOk, OnOk, OnErr};
+ghost use Rattle.std.specs.Prelude.{◌≡◌, List, take, IsTrue, IfOk, OnOk, OnErr};
 ghost use Rattle.ckpt_base.specs.Faults.{Rose};
 ghost use Rattle.disk_model.specs.View.{Steady};
 ghost use Rattle.disk_model.specs.Moments.{Among, LeavesOnly};
@@ -11,7 +11,7 @@ ghost use Rattle.output_file.specs.Pushed.{begun_behind};
 ghost use Rattle.life_journal.specs.Holding.{HoldsJournal};
 ghost use Rattle.life_journal.specs.Begun.{IsCutBehind};
 
-use crate::journal::{Journal, JournalRooms};
+use crate::journal::{Journal, JournalRooms, JournalState};
 use ckpt_base::Failed;
 use disk_model::Disk;
 use image_chain::{Chain, Step};
@@ -28,7 +28,7 @@ impl Journal {
         requires rest { chain.due ≡ Step.Piece 0 }
         requires within { IsTrue (D.view disk.old).tells → HasAtLeast length (D.view disk.old).seen.output }
         requires rests { IsTrue (D.view disk.old).tells → (rs : List Image) × Rests chain (D.view disk.old) rs × IsContent rooms.kept rs }
-        ensures whole { IfOk result (λ j. j.spent ≡ false) }
+        ensures whole { IfOk result (λ j. j.state ≡ JournalState.Resting) }
         ensures chain { IfOk result (λ j. j.chain ≡ chain) }
         ensures output { IfOk result (λ j. j.output ≡ begun_behind length) }
         ensures holds { IfOk result (λ j. IsTrue (D.view disk.old).tells → (rs : List Image) → Rests chain (D.view disk.old) rs → IsContent rooms.kept rs
@@ -48,7 +48,7 @@ impl Journal {
             kept: rooms.kept,
             output: rooms.output,
             record: rooms.record,
-            spent: false,
+            state: JournalState::Resting,
         })
     }
 }

@@ -1,8 +1,16 @@
+use Rattle.ckpt_runner.proofs.SoundLaws.{rests_whole}
+use Rattle.ckpt_runner.proofs.PutLaws.{output_fits}
 use Rattle.ckpt_runner.proofs.TakeLaws.{flushed_fits, ready_holds}
 use Rattle.ckpt_runner.proofs.PassingLaws.{flush_moments, ready_moments, ready_leaves}
 use Rattle.ckpt_runner.proofs.GoodTaking.{output_moments, room_moments, room_stays, images_beside, images_joined}
 use Rattle.ckpt_runner.proofs.StandingThen.{images_after}
 use Rattle.ckpt_runner.proofs.taking.make_ready.Goals as goal
+
+pub flush-requires-clause-whole : goal.flush-requires-clause-whole
+flush-requires-clause-whole g c = rests_whole _ c.requires.whole
+
+pub flush-requires-clause-fits : goal.flush-requires-clause-fits
+flush-requires-clause-fits g c = output_fits c.args.journal.now (g.D.Disk.view c.args.disk.now) c.requires.fits
 
 pub make_room-requires-clause-fits : goal.make_room-requires-clause-fits
 make_room-requires-clause-fits g c =

@@ -7,25 +7,26 @@ use Rattle.ckpt_runner.specs.Lives.{Lives}
 use Rattle.ckpt_runner.specs.Keeps.{Kept}
 use Rattle.ckpt_runner.specs.Calls.{FitsDisk}
 use Rattle.ckpt_runner.specs.Standing.{KeepsStanding}
-use Rattle.ckpt_runner.proofs.SoundLaws.{failed_sound, ended_sound, flushed_length}
+use Rattle.ckpt_runner.proofs.SoundLaws.{failed_sound, ended_sound, flushed_length, rests_whole}
 use Rattle.ckpt_runner.proofs.FinishLaws.{ended_lives, ended_kept, ended_good, ended_ends, journal_fits}
+use Rattle.ckpt_runner.proofs.PutLaws.{output_fits}
 use Rattle.ckpt_runner.proofs.GoodTaking.{flush_serves, images_beside}
 use Rattle.ckpt_runner.proofs.life.Life.finish.Goals as goal
 
 pub flush-requires-clause-whole : goal.flush-requires-clause-whole
-flush-requires-clause-whole g c = c.self.invariant.whole (ap (λ (l : LifeView). l.failed) c.self.view_is ∙ c.requires.whole)
+flush-requires-clause-whole g c = rests_whole _ (c.self.invariant.whole (ap (λ (l : LifeView). l.failed) c.self.view_is ∙ c.requires.whole))
 
 pub flush-requires-clause-fits : goal.flush-requires-clause-fits
 flush-requires-clause-fits g c =
     let u = g.D.Disk.view c.args.disk.now in
-    journal_fits _ u refl (subst (λ (l : LifeView). FitsDisk l u) (sym c.self.view_is) c.requires.fits)
+    output_fits c.self.inside.journal u (journal_fits _ u refl (subst (λ (l : LifeView). FitsDisk l u) (sym c.self.view_is) c.requires.fits))
 
 pub invariant_of-self : goal.invariant_of-self
 invariant_of-self g c = failed_sound _ c.flush.new.self true c.self.invariant
 
 pub invariant_of-self-2 : goal.invariant_of-self-2
 invariant_of-self-2 g c =
-    ended_sound _ c.flush.new.self (ap (λ (l : LifeView). l.failed) c.self.view_is ∙ c.requires.whole) c.self.invariant c.flush.ensures.same.0 c.in_ok-flush.ensures.whole
+    ended_sound _ c.flush.new.self (ap (λ (l : LifeView). l.failed) c.self.view_is ∙ c.requires.whole) c.self.invariant c.flush.ensures.same.0 (c.in_ok-flush.ensures.state ∙ c.self.invariant.whole (ap (λ (l : LifeView). l.failed) c.self.view_is ∙ c.requires.whole))
     (le_of_eq (sym (ap length_of c.in_ok-flush.ensures.exact ∙ flushed_length c.self.inside.journal.output)))
 
 pub returns-clause-same : goal.returns-clause-same

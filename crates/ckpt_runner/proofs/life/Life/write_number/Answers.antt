@@ -4,26 +4,26 @@ use Rattle.ckpt_base.specs.Event as run
 use Rattle.ckpt_runner.specs.LifeView.{LifeView}
 use Rattle.ckpt_runner.specs.Calls.{FitsServing}
 use Rattle.ckpt_runner.specs.Standing.{ServesStanding}
-use Rattle.ckpt_runner.proofs.SoundLaws.{failed_sound}
+use Rattle.ckpt_runner.proofs.SoundLaws.{failed_sound, rests_whole}
 use Rattle.ckpt_runner.proofs.GoodTaking.{flush_serves, images_beside}
-use Rattle.ckpt_runner.proofs.PutLaws.{serving_fits, put_serves, put_sound}
+use Rattle.ckpt_runner.proofs.PutLaws.{output_fits, serving_fits, put_serves, put_sound}
 use Rattle.ckpt_runner.proofs.life.Life.write_number.Goals as goal
 
 pub write_number-requires-clause-whole : goal.write_number-requires-clause-whole
-write_number-requires-clause-whole g c = c.self.invariant.whole (ap (λ (l : LifeView). l.failed) c.self.view_is ∙ c.requires.live.0)
+write_number-requires-clause-whole g c = rests_whole _ (c.self.invariant.whole (ap (λ (l : LifeView). l.failed) c.self.view_is ∙ c.requires.live.0))
 
 pub write_number-requires-clause-fits : goal.write_number-requires-clause-fits
 write_number-requires-clause-fits g c =
     let u = g.D.Disk.view c.args.disk.now in
     let shown : List run.Event = map run.Byte (signed_decimal c.args.number) in
-    serving_fits shown _ u refl (subst (λ (l : LifeView). FitsServing shown l u) (sym c.self.view_is) c.requires.fits)
+    output_fits c.self.inside.journal u (serving_fits shown _ u refl (subst (λ (l : LifeView). FitsServing shown l u) (sym c.self.view_is) c.requires.fits))
 
 pub invariant_of-self : goal.invariant_of-self
 invariant_of-self g c = failed_sound _ c.write_number.new.self c.self.inside.finished c.self.invariant
 
 pub invariant_of-self-2 : goal.invariant_of-self-2
 invariant_of-self-2 g c =
-    put_sound _ c.write_number.new.self _ (ap (λ (l : LifeView). l.failed) c.self.view_is ∙ c.requires.live.0) c.self.invariant c.write_number.ensures.same.0 c.in_ok-write_number.ensures.whole c.in_ok-write_number.ensures.count
+    put_sound _ c.write_number.new.self _ (ap (λ (l : LifeView). l.failed) c.self.view_is ∙ c.requires.live.0) c.self.invariant c.write_number.ensures.same.0 (c.in_ok-write_number.ensures.state ∙ c.self.invariant.whole (ap (λ (l : LifeView). l.failed) c.self.view_is ∙ c.requires.live.0)) c.in_ok-write_number.ensures.count
 
 pub returns-clause-serves : goal.returns-clause-serves
 returns-clause-serves g c = λ o es.
