@@ -1,3 +1,4 @@
+use Rattle.std.proofs.Common.{rules}
 use Rattle.ckpt_runner.specs.Arguments.{given_by}
 use Rattle.ckpt_runner.proofs.OpenLaws.{refused_leaves, opens_there, resumed_opens}
 use Rattle.ckpt_runner.proofs.GoodOpening.{same_standing, old_standing, old_later, standing_twice, opens_good, resumed_opens_good}
@@ -66,3 +67,6 @@ returns-clause-moments g c =
 pub returns-clause-later : goal.returns-clause-later
 returns-clause-later g c =
     images_after (g.D.Disk.view c.args.disk.now) (g.D.Disk.view c.open.new.disk) (g.D.Disk.view c.resume.new.disk) (g.met.D.Disk.tells_all c.args.disk.now) c.open.ensures.steady.tells (old_later (g.D.Disk.view c.args.disk.now) (g.D.Disk.view c.open.new.disk) c.open.ensures.any_moment) c.resume.ensures.later
+
+pub returns-in_err-open-clause-leaves : goal.returns-in_err-open-clause-leaves
+returns-in_err-open-clause-leaves g c = search rules
