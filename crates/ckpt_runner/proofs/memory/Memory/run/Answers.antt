@@ -1,5 +1,4 @@
-use Rattle.std.proofs.Common.{◌∙◌, sym, ap, subst, refl, arith, ℕ, Bool, List, length, length-set, true}
-use Rattle.dirty_pages.specs.Pages.{PageStates}
+use Rattle.std.proofs.Common.{◌∙◌, sym, ap, subst, refl, arith, Bool, List, length, length-set, true}
 use Rattle.paged_machine.specs.RunOn.{Answers, WouldWrite, live_behind}
 use Rattle.ckpt_runner.proofs.OverLaws.{IsOpened, fit_on, served_less, goes_first, goes_then, shrinks_over, snapped_on, apart_on}
 use Rattle.ckpt_runner.proofs.memory.Memory.run.Goals as goal
