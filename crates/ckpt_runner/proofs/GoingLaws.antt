@@ -1,10 +1,10 @@
 -- Turns of a life, one after another.
-use Rattle.std.proofs.Common.{◌≡◌, refl, sym, ◌∙◌, ap, subst, ℕ, Bool, false, IsTrue, List, [], ◌∷◌, ◌++◌, length, drop, get_or, append_assoc, append-nil, Some}
+use Rattle.std.proofs.Common.{◌≡◌, refl, sym, ◌∙◌, ap, subst, ℕ, Bool, true, false, IsTrue, List, [], ◌∷◌, ◌++◌, length, drop, append_assoc, append-nil, Some}
 use Rattle.std.specs.List.{AllByRecursion}
 use Rattle.ckpt_base.specs.declared.ending.Ending.{Ending}
 use Rattle.ckpt_base.specs.Event.{Event, Excluded}
 use Rattle.ckpt_base.specs.Run.{output}
-use Rattle.dirty_pages.specs.Pages.{PageStates}
+use Rattle.dirty_pages.specs.Pages.{PageStates, in_snapshot}
 use Rattle.disk_model.specs.View.{View}
 use Rattle.machine_code.specs.declared.event.Event as machine
 use Rattle.machine_code.specs.Shown.{wrote}
@@ -21,7 +21,7 @@ use Rattle.run_images.specs.JoinedList.{IsJoinedList}
 use Rattle.run_images.specs.Origin.{Origin}
 use Rattle.ckpt_runner.specs.LifeView.{LifeView, Writer, Idle, Waiting, Writing}
 use Rattle.ckpt_runner.specs.Lives.{since_now, HasServed, Lives, StopsAt}
-use Rattle.ckpt_runner.specs.Keeps.{Kept, WriterStands, bytes_now, images_now}
+use Rattle.ckpt_runner.specs.Keeps.{Kept, NoneSnapped, WriterStands, bytes_now, images_now}
 use Rattle.ckpt_runner.specs.Good.{IsGood}
 use Rattle.ckpt_runner.specs.RunsOver.{IsStore}
 use Rattle.ckpt_runner.specs.Calls.{FitsDisk, GoesOn, GoesTo, Serves}
@@ -65,28 +65,41 @@ fits_on a b u v tells fits goes told =
 
 -- ---- events that write nothing and take no image
 
-writer_on : (a b : LifeView) (v : View) (old new : List Image) (w : Writer) → b.journal ≡ a.journal → b.pages.in_snapshot ≡ a.pages.in_snapshot → WriterStands a v old new w → WriterStands b v old new w
-writer_on a b v old new Idle same snapshot h =
-    (h.0, subst (λ (j : JournalView). Rests j.chain v old) (sym same) h.1, λ p. ap (λ (l : List Bool). get_or l p false) snapshot ∙ h.2 p)
-writer_on a b v old new (Waiting f) same snapshot h = (subst (λ (j : JournalView). Rests j.chain v old) (sym same) h.0, h.1)
-writer_on a b v old new (Writing bytes done) same snapshot h = (
+-- in the snapshot of the second life is no page that was not in that of the first
+abbrev pub HasFewer : LifeView → LifeView → Type 0
+HasFewer a b = (page : ℕ) → in_snapshot b.pages page ≡ true → in_snapshot a.pages page ≡ true
+
+not_set : (b : Bool) → (b ≡ true → false ≡ true) → b ≡ false
+not_set true h = sym (h refl)
+not_set false h = refl
+
+none_on : (a b : LifeView) → HasFewer a b → NoneSnapped a.pages → NoneSnapped b.pages
+none_on a b fewer none p = not_set (in_snapshot b.pages p) (λ e. sym (none p) ∙ fewer p e)
+
+pub same_pages : (a b : LifeView) → b.pages ≡ a.pages → HasFewer a b
+same_pages a b same page e = ap (λ (p : PageStates). in_snapshot p page) (sym same) ∙ e
+
+writer_on : (a b : LifeView) (v : View) (old new : List Image) (w : Writer) → b.journal ≡ a.journal → HasFewer a b → WriterStands a v old new w → WriterStands b v old new w
+writer_on a b v old new Idle same fewer h = (h.0, subst (λ (j : JournalView). Rests j.chain v old) (sym same) h.1, none_on a b fewer h.2)
+writer_on a b v old new (Waiting f) same fewer h = (subst (λ (j : JournalView). Rests j.chain v old) (sym same) h.0, h.1)
+writer_on a b v old new (Writing bytes done) same fewer h = (
   h.0,
   subst (λ (j : JournalView). IsDue j.chain.current v old bytes (step_after done (length bytes))) (sym same) h.1,
   subst (λ (j : JournalView). j.chain.due ≡ step_after done (length bytes)) (sym same) h.2,
-  λ p. ap (λ (l : List Bool). get_or l p false) snapshot ∙ h.3 p,
+  none_on a b fewer h.3,
 )
 
 -- the disk holds what belongs there also behind events that write nothing and take no image
-pub kept_on : (o : Origin) (es fs : List Event) (a b : LifeView) (v : View) → b.journal ≡ a.journal → b.writer ≡ a.writer → b.pages.in_snapshot ≡ a.pages.in_snapshot → output fs ≡ [] → images_from o.taking fs (since_now o es) ≡ []
+pub kept_on : (o : Origin) (es fs : List Event) (a b : LifeView) (v : View) → b.journal ≡ a.journal → b.writer ≡ a.writer → HasFewer a b → output fs ≡ [] → images_from o.taking fs (since_now o es) ≡ []
     → Kept o es a v → Kept o (es ++ fs) b v
-kept_on o es fs a b v journal writer snapshot silent none k =
+kept_on o es fs a b v journal writer fewer silent none k =
     let bytes : bytes_now o es ≡ bytes_now o (es ++ fs) = sym (bytes_more o es fs ∙ ap (λ (l : List ℕ). bytes_now o es ++ l) silent ∙ append-nil (bytes_now o es)) in
     let images : images_now o es ≡ images_now o (es ++ fs) = sym (images_then o es fs ∙ ap (λ (l : List TakenImage). images_now o es ++ l) none ∙ append-nil (images_now o es)) in
     record {
       old = k.old;
       new = k.new;
       keeps = record {
-        writer = subst (λ (w : Writer). WriterStands b v k.old k.new w) (sym writer) (writer_on a b v k.old k.new a.writer journal snapshot k.keeps.writer);
+        writer = subst (λ (w : Writer). WriterStands b v k.old k.new w) (sym writer) (writer_on a b v k.old k.new a.writer journal fewer k.keeps.writer);
         content = subst (λ (j : JournalView). IsContent j.kept k.old) (sym journal) k.keeps.content;
         output = subst (λ (j : JournalView). IsOutputOn j.output v (bytes_now o (es ++ fs))) (sym journal) (subst (λ (l : List ℕ). IsOutputOn a.journal.output v l) bytes k.keeps.output);
         images = λ before was. subst (λ (l : List TakenImage). IsJoinedList k.new (before ++ l)) images (k.keeps.images before was);
@@ -101,9 +114,9 @@ stores_take_none : (T : Taking) (es : List Event) (s : Since) → AllByRecursion
 stores_take_none T [] s h = refl
 stores_take_none T (e ∷ es) s h = ap (λ (x : Event). images_from T (x ∷ es) s) h.0.1 ∙ stores_take_none T es (record s { written = h.0.0 ∷ s.written }) h.1
 
-pub stores_kept : (o : Origin) (es stores : List Event) (a b : LifeView) (v : View) → AllByRecursion IsStore stores → b.journal ≡ a.journal → b.writer ≡ a.writer → b.pages.in_snapshot ≡ a.pages.in_snapshot → Kept o es a v → Kept o (es ++ stores) b v
-stores_kept o es stores a b v each journal writer snapshot k =
-    kept_on o es stores a b v journal writer snapshot (stores_write_none stores each) (stores_take_none o.taking stores (since_now o es) each) k
+pub stores_kept : (o : Origin) (es stores : List Event) (a b : LifeView) (v : View) → AllByRecursion IsStore stores → b.journal ≡ a.journal → b.writer ≡ a.writer → HasFewer a b → Kept o es a v → Kept o (es ++ stores) b v
+stores_kept o es stores a b v each journal writer fewer k =
+    kept_on o es stores a b v journal writer fewer (stores_write_none stores each) (stores_take_none o.taking stores (since_now o es) each) k
 
 -- ---- what an instruction asks for is served
 
@@ -132,7 +145,7 @@ input_on o es a b v journal frames writer pages lives =
     record {
       more = next_taken left;
       lives = lives;
-      kept = λ told k. kept_on o es (next_taken left) a b v journal writer (ap (λ (p : PageStates). p.in_snapshot) pages) (next_silent left) (next_none o.taking left (since_now o es)) k;
+      kept = λ told k. kept_on o es (next_taken left) a b v journal writer (same_pages a b pages) (next_silent left) (next_none o.taking left (since_now o es)) k;
       good = λ told s is of k. quiet_good s o es (next_taken left) a b v (next_silent left) (next_stores left) (next_none o.taking left (since_now o es)) journal frames k;
     }
 
@@ -140,6 +153,6 @@ pub directive_on : (o : Origin) (es : List Event) (k : ℕ) (a b : LifeView) (v 
 directive_on o es k a b v journal frames writer pages lives = record {
   more = Excluded k ∷ [];
   lives = lives;
-  kept = λ told h. kept_on o es (Excluded k ∷ []) a b v journal writer (ap (λ (p : PageStates). p.in_snapshot) pages) refl refl h;
+  kept = λ told h. kept_on o es (Excluded k ∷ []) a b v journal writer (same_pages a b pages) refl refl h;
   good = λ told s is of h. quiet_good s o es (Excluded k ∷ []) a b v refl refl refl journal frames h;
 }

@@ -1,11 +1,11 @@
 -- Runs of instructions whose write faults are served.
 use Rattle.std.proofs.Common.{◌≡◌, ◌≢◌, refl, sym, ◌∙◌, ap, subst, ℕ, zero, suc, ◌+◌, ◌/◌, ◌<◌, ◌==◌, ◌||◌, Bool, true, false, not, List, [], ◌∷◌, ◌++◌, length, get_or, set, append_assoc, append-nil, Option, Some, None, ◌⊎◌, ⊎_elim, inl, inr, arith, length-set, get_or-set_same, get_or-set_other}
-use Rattle.std.specs.Prelude.{slice_get}
+use Rattle.std.specs.Prelude.{slice_get, slice_index}
 use Rattle.std.specs.List.{AllByRecursion, list_any}
 use Rattle.std.proofs.lemmas.Bool.Decides.{nat_tests}
 use Rattle.std.proofs.lemmas.List.Elements.{recursion_from_All}
 use Rattle.ckpt_base.specs.Event.{Event}
-use Rattle.dirty_pages.specs.Pages.{PageStates, is_dirty, is_protected, served}
+use Rattle.dirty_pages.specs.Pages.{PageStates, is_dirty, is_protected, in_snapshot, served}
 use Rattle.machine_code.specs.declared.event.Event as machine
 use Rattle.machine_code.specs.declared.event.Event.TheVariants.{WriteFault, Ran, Ticked, Out, OutNumber, WantsInput, Checkpoint, Exclude, Ended, Trapped}
 use Rattle.machine_code.specs.declared.instr.Instr.TheVariants.{Tick}
@@ -19,6 +19,7 @@ use Rattle.paged_machine.specs.Rest.{Shrinks}
 use Rattle.paged_machine.specs.RunOn.{Answers, GoesOn, WouldWrite, told_by}
 use Rattle.paged_machine.proofs.StopLaws.{is_done, comes_first}
 use Rattle.ckpt_runner.specs.RunsOver.{IsStore, writes_page, RunsOver}
+use Rattle.ckpt_runner.specs.Snapshot.{IsApart, IsSnapped}
 use Rattle.ckpt_runner.proofs.ServedLaws.{IsOpenStore, open_page}
 
 -- ---- the pages that stores write
@@ -70,7 +71,8 @@ over_first c s t m n pages answer g =
       comes = g.comes;
       pages = refl;
       dirty = λ page within. or_same (is_dirty pages page) (list_any (writes_page page) g.stores) (written_dirty pages page g.stores each);
-      snapshot = refl;
+      marks = refl;
+      fewer = λ page h. h;
     }
 
 or_turn : (a b : Bool) → (a || b) ≡ (b || a)
@@ -93,13 +95,24 @@ dirty_on mid p page es within each writes = by_page (page == p) refl
         let was : is_dirty (served mid p) page ≡ is_dirty mid page = get_or-set_other mid.dirty p page true true other in
         was ∙ or_same (is_dirty mid page) (list_any (writes_page page) es) (λ here. sym was ∙ written_dirty (served mid p) page es each here)
 
-pub over_then : (c : CodeView) (s t u : State) (m n k : List ℕ) (old mid : PageStates) (p : ℕ) (answer : Option machine.Event) → RunsOver c s m old (Some (WriteFault p)) t n mid → WouldWrite c mid t n p
-    → GoesOn c (is_protected (served mid p)) t n answer u k → Answers c (served mid p) u k answer → (answer ≡ None → slice_get c.instrs u.place ≡ Some Tick) → RunsOver c s m old answer u k (served mid p)
-over_then c s t u m n k old mid p answer r w g is none =
-    let on = served mid p in
+-- the fault of page p was served: it is dirty and in no snapshot, and in the snapshot is no page that was not
+pub record IsOpened (mid : PageStates) (p : ℕ) (new : PageStates) : Type 0 where
+  pub dirty : new.dirty ≡ (served mid p).dirty
+  pub marks : length new.in_snapshot ≡ length mid.in_snapshot
+  pub fewer : (page : ℕ) → in_snapshot new page ≡ true → in_snapshot mid page ≡ true
+  pub here : in_snapshot new p ≡ false
+
+-- the pages behind that fault, with these in the snapshot
+abbrev opened : PageStates → ℕ → List Bool → PageStates
+opened mid p marks = record { dirty = (served mid p).dirty; in_snapshot = marks }
+
+over_then : (c : CodeView) (s t u : State) (m n k : List ℕ) (old mid new : PageStates) (p : ℕ) (answer : Option machine.Event) → IsOpened mid p new → RunsOver c s m old (Some (WriteFault p)) t n mid → WouldWrite c mid t n p
+    → GoesOn c (is_protected (opened mid p new.in_snapshot)) t n answer u k → Answers c (opened mid p new.in_snapshot) u k answer → (answer ≡ None → slice_get c.instrs u.place ≡ Some Tick) → RunsOver c s m old answer u k (opened mid p new.in_snapshot)
+over_then c s t u m n k old mid new p answer o r w g is none =
+    let on = opened mid p new.in_snapshot in
     let each = recursion_from_All (IsOpenStore on) g.stores g.open_pages in
-    let opened : is_protected on p ≡ false = ap not (get_or-set_same mid.dirty p true true w.within) in
-    let closed : is_protected on (w.cell / 512) ≡ false = subst (λ (q : ℕ). is_protected on q ≡ false) (sym w.page) opened in
+    let there : is_protected on p ≡ false = ap not (get_or-set_same mid.dirty p true true w.within) in
+    let closed : is_protected on (w.cell / 512) ≡ false = subst (λ (q : ℕ). is_protected on q ≡ false) (sym w.page) there in
     let some = is_done c on t u n k answer w.cell w.shown closed g is none in
     let first = comes_first c on t u n k answer w.cell w.shown g some in
     let writes : list_any (writes_page p) g.stores ≡ true =
@@ -119,7 +132,8 @@ over_then c s t u m n k old mid p answer r w g is none =
           now ∙ ap (λ (b : Bool). b || list_any (writes_page page) g.stores) (r.dirty page within)
           ∙ sym (or_assoc (is_dirty old page) (list_any (writes_page page) r.stores) (list_any (writes_page page) g.stores))
           ∙ ap (λ (b : Bool). is_dirty old page || b) (sym (any_both (writes_page page) r.stores g.stores));
-      snapshot = r.snapshot;
+      marks = o.marks ∙ r.marks;
+      fewer = λ page h. r.fewer page (o.fewer page h);
     }
 
 -- ---- how many pages are protected
@@ -159,19 +173,42 @@ fit_on c m n pages new f size same = record {
   cells = subst (FitsMemory c) (sym size) f.cells;
 }
 
-pub served_less : (pages new : PageStates) (p : ℕ) → new ≡ served pages p → p < length pages.dirty → is_protected pages p ≡ true → closed new.dirty < closed pages.dirty
+pub served_less : (pages new : PageStates) (p : ℕ) → IsOpened pages p new → p < length pages.dirty → is_protected pages p ≡ true → closed new.dirty < closed pages.dirty
 served_less pages new p is within protected =
-    subst (λ (x : PageStates). closed x.dirty < closed pages.dirty) (sym is) (closed_less pages.dirty p within (not_true (get_or pages.dirty p true) protected))
+    subst (λ (d : List Bool). closed d < closed pages.dirty) (sym is.dirty) (closed_less pages.dirty p within (not_true (get_or pages.dirty p true) protected))
   where
     not_true : (b : Bool) → not b ≡ true → b ≡ false
     not_true true e = sym e
     not_true false e = refl
 
-pub over_on : (c : CodeView) (s t u : State) (m n k : List ℕ) (old mid new : PageStates) (p : ℕ) (answer : Option machine.Event) → new ≡ served mid p → RunsOver c s m old (Some (WriteFault p)) t n mid → WouldWrite c mid t n p
+pub over_on : (c : CodeView) (s t u : State) (m n k : List ℕ) (old mid new : PageStates) (p : ℕ) (answer : Option machine.Event) → IsOpened mid p new → RunsOver c s m old (Some (WriteFault p)) t n mid → WouldWrite c mid t n p
     → GoesOn c (is_protected new) t n answer u k → Answers c new u k answer → (answer ≡ None → slice_get c.instrs u.place ≡ Some Tick) → RunsOver c s m old answer u k new
 over_on c s t u m n k old mid new p answer is r w g told none =
-    subst (λ (x : PageStates). RunsOver c s m old answer u k x) (sym is)
-    (over_then c s t u m n k old mid p answer r w (subst (λ (x : PageStates). GoesOn c (is_protected x) t n answer u k) is g) (subst (λ (x : PageStates). Answers c x u k answer) is told) none)
+    let with_dirty : List Bool → PageStates = λ d. record { dirty = d; in_snapshot = new.in_snapshot } in
+    subst (λ (d : List Bool). RunsOver c s m old answer u k (with_dirty d)) (sym is.dirty)
+    (over_then c s t u m n k old mid new p answer is r w (subst (λ (d : List Bool). GoesOn c (is_protected (with_dirty d)) t n answer u k) is.dirty g) (subst (λ (d : List Bool). Answers c (with_dirty d) u k answer) is.dirty told) none)
+
+-- ---- the snapshot
+
+pub snapped_on : (takes : ℕ → Bool) (memory : List ℕ) (pages : PageStates) (m n copies : List ℕ) → IsApart pages → ((cell : ℕ) → is_protected pages (cell / 512) ≡ true → slice_index n cell ≡ slice_index m cell)
+    → IsSnapped takes memory pages m copies → IsSnapped takes memory pages n copies
+snapped_on takes memory pages m n copies apart spared h = record {
+  marked = λ cell takes marked. spared cell (ap not (apart (cell / 512) marked)) ∙ h.marked cell takes marked;
+  copied = h.copied;
+}
+
+pub apart_on : (mid new : PageStates) (p : ℕ) → IsOpened mid p new → IsApart mid → IsApart new
+apart_on mid new p o apart q marked = by_page (q == p) refl
+  where
+    wrong : (b : Bool) → b ≡ true → b ≡ false → ⊥
+    wrong b set clear = let z : true ≡ false = sym set ∙ clear in cc
+
+    by_page : (b : Bool) → (q == p) ≡ b → is_dirty new q ≡ false
+    by_page true e =
+        let same : q ≡ p = grind (arith, nat_tests, e) in absurd (wrong (in_snapshot new p) (ap (in_snapshot new) (sym same) ∙ marked) o.here)
+    by_page false e =
+        let other : q ≢ p = grind (arith, nat_tests, e) in
+        ap (λ (d : List Bool). get_or d q true) o.dirty ∙ get_or-set_other mid.dirty p q true true other ∙ apart q (o.fewer q marked)
 
 -- ---- a run, whatever it goes on with
 
@@ -188,7 +225,7 @@ pub goes_first : (c : CodeView) (s : State) (m : List ℕ) (pages : PageStates) 
 goes_first c s m pages = λ answer u k g told none. over_first c s u m k pages answer g
 
 -- behind a fault that was served
-pub goes_then : (c : CodeView) (s t u : State) (m n k : List ℕ) (old mid new : PageStates) (p : ℕ) (answer : Option machine.Event) → answer ≡ Some (WriteFault p) → new ≡ served mid p → GoesOver c s m old t n mid
+pub goes_then : (c : CodeView) (s t u : State) (m n k : List ℕ) (old mid new : PageStates) (p : ℕ) (answer : Option machine.Event) → answer ≡ Some (WriteFault p) → IsOpened mid p new → GoesOver c s m old t n mid
     → GoesOn c (is_protected mid) t n answer u k → Answers c mid u k answer → GoesOver c s m old u k new
 goes_then c s t u m n k old mid new p answer fault is over g told =
     let w : WouldWrite c mid u k p = subst (Answers c mid u k) fault told in

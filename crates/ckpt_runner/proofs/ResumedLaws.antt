@@ -62,8 +62,8 @@ filled_word n k w frames o lt is = ap (λ (x : ℕ). unwrap_or o x) (ap (λ (l :
 
 -- ---- memory
 
-pub new_room : (life : CompiledView) (fill : ℕ) (m : MachineView) (frames : List ℕ) (pages : PageStates) → IsNewMemory life fill m frames pages → cells_in life ≤ length frames
-new_room life fill m frames pages new =
+pub new_room : (life : CompiledView) (fill : ℕ) (m : MachineView) (frames copies : List ℕ) (pages : PageStates) → IsNewMemory life fill m frames copies pages → cells_in life ≤ length frames
+new_room life fill m frames copies pages new =
     let size : length frames ≡ 512 * new.count = ap length new.frames_are ∙ length-replicate (512 * new.count) (fill_word fill) in
     let room = new.room in
     omega (arith, size, room)
@@ -92,17 +92,22 @@ clean_page life count page is lt =
     let size : length life.pages.dirty ≡ length (replicate count true) = ap (λ (x : PageStates). length x.dirty) is ∙ length-replicate (length (replicate count true)) false in
     ap (λ (x : PageStates). is_dirty x page) is ∙ protected_clean (length (replicate count true)) page (omega (arith, size, lt))
 
+fresh_marks : (pages : PageStates) (count : ℕ) → pages ≡ protected (fresh count) → length pages.in_snapshot ≡ length pages.dirty
+fresh_marks pages count is =
+    ap (λ (x : PageStates). length x.in_snapshot) is ∙ length-replicate count false
+    ∙ sym (ap (λ (x : PageStates). length x.dirty) is ∙ length-replicate (length (replicate count true)) false ∙ length-replicate count true)
+
 -- what the machine, the frames and the pages are made to
-pub resumed_is : (life : LifeView) (kept : Joined) (fill : ℕ) (newest : Fields) (m : MachineView) (frames loaded : List ℕ) (pages : PageStates) → IsNewMemory life.compiled fill m frames pages → AreFields newest
+pub resumed_is : (life : LifeView) (kept : Joined) (fill : ℕ) (newest : Fields) (m : MachineView) (frames copies loaded : List ℕ) (pages : PageStates) → IsNewMemory life.compiled fill m frames copies pages → AreFields newest
     → ((k : ℕ) → slice_index loaded k ≡ unwrap_or (kept_word kept k) (slice_index frames k)) → length loaded ≡ length frames → life.frames ≡ loaded → life.pages ≡ protected pages
     → ((q : ℕ) × (has_checkpoint life.compiled.code newest.node q ≡ true) × (life.machine.state ≡ standing q newest.steps))
     → life.progress ≡ progress_in (since_behind newest) → life.journal.output ≡ begun_behind newest.output_length → life.writer ≡ Idle → IsResumedLife life kept fill newest
-resumed_is life kept fill newest m frames loaded pages new said words size same flags place progress output writer = record {
+resumed_is life kept fill newest m frames copies loaded pages new said words size same flags place progress output writer = record {
   place = place;
   words = λ k lt.
       let room = new.room in
       ap (λ (l : List ℕ). slice_index l k) same ∙ words k ∙ filled_word (512 * new.count) k (fill_word fill) frames (kept_word kept k) (omega (arith, lt, room)) new.frames_are;
-  room = let room = new_room life.compiled fill m frames pages new in let now : length life.frames ≡ length loaded = ap length same in omega (arith, room, now, size);
+  room = let room = new_room life.compiled fill m frames copies pages new in let now : length life.frames ≡ length loaded = ap length same in omega (arith, room, now, size);
   count = new.count;
   pages = flags ∙ ap protected new.pages_are;
   number = said.ranges.number;
@@ -211,8 +216,8 @@ one_newest : (x : Option Fields) (f newest : Fields) → x ≡ Some newest → x
 one_newest x f newest a b = let e : Some newest ≡ Some f = sym a ∙ b in cc
 
 pub resumed_sound : (g : Given) (life : LifeView) (kept : Joined) (fill : ℕ) (newest : Fields) → IsResumedLife life kept fill newest → Restarts g kept newest → g.compiled ≡ life.compiled → g.marks ≡ life.marks → g.input ≡ life.input
-    → CanRun life.compiled → StandsIn life.compiled.code life.machine → FitTogether life.compiled.code life.frames life.pages → length life.input ≤ 16777216 → life.journal.state ≡ Resting → life.journal.chain.current.newest ≡ Some newest → IsSoundLife life
-resumed_sound g life kept fill newest is restarts compiled marks input runs stands fit short whole newest_is =
+    → CanRun life.compiled → StandsIn life.compiled.code life.machine → FitTogether life.compiled.code life.frames life.pages → length life.copies ≡ length life.frames → length life.input ≤ 16777216 → life.journal.state ≡ Resting → life.journal.chain.current.newest ≡ Some newest → IsSoundLife life
+resumed_sound g life kept fill newest is restarts compiled marks input runs stands fit copies short whole newest_is =
     let taken : newest.input_place ≤ length life.input = subst (λ (l : List ℕ). newest.input_place ≤ length l) input restarts.input_place in
     let place : newest.input_place ≡ life.progress.input_place = ap (λ (p : Progress). p.input_place) (sym is.progress) in
     record {
@@ -220,6 +225,8 @@ resumed_sound g life kept fill newest is restarts compiled marks input runs stan
       stands = stands;
       fit = fit;
       cells = is.room;
+      copies = copies;
+      marks = fresh_marks life.pages is.count is.pages;
       none = λ p. ap (λ (x : PageStates). in_snapshot x p) is.pages ∙ fresh_unmarked is.count p;
       directive = subst (λ (p : Progress). p.directive ≤ life.compiled.directives) (sym is.progress) (subst (λ x. newest.directive ≤ x.directives) compiled restarts.directive);
       short = short;

@@ -1,8 +1,8 @@
 -- What a life keeps of itself goes on.
-use Rattle.std.proofs.Common.{◌≡◌, ◌≢◌, sym, ◌∙◌, ap, subst, ℕ, ◌≤◌, Bool, true, false, List, length, get_or, arith}
+use Rattle.std.proofs.Common.{◌≡◌, ◌≢◌, refl, sym, ◌∙◌, ap, subst, ℕ, ◌≤◌, Bool, true, false, List, length, arith}
 use Rattle.std.specs.Prelude.{slice_set}
 use Rattle.std.proofs.lemmas.List.{length-set}
-use Rattle.dirty_pages.specs.Pages.{PageStates, served}
+use Rattle.dirty_pages.specs.Pages.{PageStates, in_snapshot, served}
 use Rattle.image_chain.specs.ChainView.{ChainView}
 use Rattle.output_file.specs.Pushed.{Pushed, length_of, flushed}
 use Rattle.paged_machine.specs.MachineView.{MachineView}
@@ -22,17 +22,23 @@ rests_whole s rests spent = spent_not (sym rests ∙ spent)
     spent_not : Resting ≡ Spent → ⊥
     spent_not e = cc
 
+not_set : (b : Bool) → (b ≡ true → false ≡ true) → b ≡ false
+not_set true h = sym (h refl)
+not_set false h = refl
+
 -- a run of instructions
-pub moved_sound : (life : LifeView) (m : MachineView) (n : List ℕ) (pages : PageStates) → IsSoundLife life → StandsIn life.compiled.code m → FitTogether life.compiled.code n pages → length pages.dirty ≡ length life.pages.dirty → pages.in_snapshot ≡ life.pages.in_snapshot
-    → IsSoundLife (record life { machine = m; frames = n; pages = pages })
-moved_sound life m n pages s stands fit same snapshot =
+pub moved_sound : (life : LifeView) (m : MachineView) (n copies : List ℕ) (pages : PageStates) → IsSoundLife life → StandsIn life.compiled.code m → FitTogether life.compiled.code n pages → length copies ≡ length n → length pages.dirty ≡ length life.pages.dirty
+    → length pages.in_snapshot ≡ length life.pages.in_snapshot → ((p : ℕ) → in_snapshot pages p ≡ true → in_snapshot life.pages p ≡ true) → IsSoundLife (record life { machine = m; frames = n; copies = copies; pages = pages })
+moved_sound life m n copies pages s stands fit room same marks fewer =
     let size : length n ≡ length life.frames = let a = fit.same in let b = s.fit.same in omega (arith, a, b, same) in
     record {
       runs = s.runs;
       stands = stands;
       fit = fit;
       cells = subst (λ (k : ℕ). cells_in life.compiled ≤ k) (sym size) s.cells;
-      none = λ p. ap (λ (l : List Bool). get_or l p false) snapshot ∙ s.none p;
+      copies = room;
+      marks = marks ∙ s.marks ∙ sym same;
+      none = λ p. not_set (in_snapshot pages p) (λ e. sym (s.none p) ∙ fewer p e);
       directive = s.directive;
       short = s.short;
       taken = s.taken;
@@ -48,6 +54,8 @@ journal_sound life j s chain whole longer = record {
   stands = s.stands;
   fit = s.fit;
   cells = s.cells;
+  copies = s.copies;
+  marks = s.marks;
   none = s.none;
   directive = s.directive;
   short = s.short;
@@ -66,6 +74,8 @@ failed_sound life j finished s = record {
   stands = s.stands;
   fit = s.fit;
   cells = s.cells;
+  copies = s.copies;
+  marks = s.marks;
   none = s.none;
   directive = s.directive;
   short = s.short;
@@ -84,6 +94,8 @@ finished_sound life s = record {
   stands = s.stands;
   fit = s.fit;
   cells = s.cells;
+  copies = s.copies;
+  marks = s.marks;
   none = s.none;
   directive = s.directive;
   short = s.short;
@@ -102,6 +114,8 @@ served_sound life p s =
       stands = s.stands;
       fit = record { same = let e = s.fit.same in omega (arith, e, size); few = let le = s.fit.few in omega (arith, le, size); cells = s.fit.cells };
       cells = s.cells;
+      copies = s.copies;
+      marks = s.marks ∙ sym size;
       none = s.none;
       directive = s.directive;
       short = s.short;
@@ -118,6 +132,8 @@ excluded_sound life k le s = record {
   stands = s.stands;
   fit = s.fit;
   cells = s.cells;
+  copies = s.copies;
+  marks = s.marks;
   none = s.none;
   directive = le;
   short = s.short;

@@ -240,6 +240,8 @@ imaged_sound life j f node tick n s whole newest is output =
       stands = s.stands;
       fit = record { same = let e = s.fit.same in omega (arith, e, size); few = let le = s.fit.few in omega (arith, le, size); cells = s.fit.cells };
       cells = s.cells;
+      copies = s.copies;
+      marks = s.marks ∙ sym size;
       none = s.none;
       directive = s.directive;
       short = s.short;

@@ -29,7 +29,7 @@ use Rattle.ckpt_runner.proofs.StoppedLaws.{going_stops, ended_stops, trapped_sto
 
 -- the machine of the life ran on, with what it runs over
 abbrev pub RanOn : LifeView → LifeView → Type 0
-RanOn a b = b ≡ record a { machine = b.machine; frames = b.frames; pages = b.pages }
+RanOn a b = b ≡ record a { machine = b.machine; frames = b.frames; copies = b.copies; pages = b.pages }
 
 abbrev pub Over : LifeView → LifeView → Option machine.Event → Type 0
 Over a b e = RunsOver a.compiled.code a.machine.state a.frames a.pages e b.machine.state b.frames b.pages
@@ -38,16 +38,16 @@ module _ (a b : LifeView) (same : RanOn a b) (sound : IsSoundLife a) where
   pub ran_served : (o : Origin) (es : List Event) (e : Option machine.Event) (r : Over a b e) → Lives o es a → HasServed o (es ++ r.stores) (told_by b.machine.state.ticks e) b
   ran_served o es e r lives =
       let h = over_served o es a e b.machine.state b.frames b.pages sound.runs.fits sound.cells lives r in
-      let there : HasServed o (es ++ r.stores) (told_by b.machine.state.ticks e) (record a { machine = b.machine; frames = b.frames; pages = b.pages }) =
+      let there : HasServed o (es ++ r.stores) (told_by b.machine.state.ticks e) (record a { machine = b.machine; frames = b.frames; copies = b.copies; pages = b.pages }) =
       record { code = h.code; taking = h.taking; reaches = h.reaches; progress = h.progress; output_length = h.output_length; pages = h.pages } in
       subst (λ (l : LifeView). HasServed o (es ++ r.stores) (told_by b.machine.state.ticks e) l) (sym same) there
 
   pub ran_kept : (o : Origin) (es : List Event) (v : View) (e : Option machine.Event) (r : Over a b e) → Kept o es a v → Kept o (es ++ r.stores) b v
-  ran_kept o es v e r k = stores_kept o es r.stores a b v r.each (ap (λ (l : LifeView). l.journal) same) (ap (λ (l : LifeView). l.writer) same) r.snapshot k
+  ran_kept o es v e r k = stores_kept o es r.stores a b v r.each (ap (λ (l : LifeView). l.journal) same) (ap (λ (l : LifeView). l.writer) same) r.fewer k
 
   pub ran_good : (o : Origin) (es : List Event) (v : View) (e : Option machine.Event) (r : Over a b e) → Lives o es a → (s : Source) → IsGood s o es a v → IsGood s o (es ++ r.stores) b v
   ran_good o es v e r lives s g =
-      let there : IsGood s o (es ++ r.stores) (record a { machine = b.machine; frames = b.frames; pages = b.pages }) v = run_good s o es a e b.machine.state b.frames b.pages v sound.runs.fits sound.cells lives r g in
+      let there : IsGood s o (es ++ r.stores) (record a { machine = b.machine; frames = b.frames; copies = b.copies; pages = b.pages }) v = run_good s o es a e b.machine.state b.frames b.pages v sound.runs.fits sound.cells lives r g in
       subst (λ (l : LifeView). IsGood s o (es ++ r.stores) l v) (sym same) there
 
   -- at each moment the store stands where it does while the answer is served
@@ -120,9 +120,9 @@ module _ (a b : LifeView) (same : RanOn a b) (sound : IsSoundLife a) where
 -- what a turn leaves as it was
 pub same_turn : (a b d : LifeView) → RanOn a b
     → d ≡ record b { machine = record b.machine { state = d.machine.state }; pages = d.pages; progress = d.progress; journal = d.journal; failed = d.failed }
-    → d ≡ record a { machine = d.machine; frames = d.frames; pages = d.pages; progress = d.progress; journal = d.journal; failed = d.failed }
+    → d ≡ record a { machine = d.machine; frames = d.frames; copies = d.copies; pages = d.pages; progress = d.progress; journal = d.journal; failed = d.failed }
 same_turn a b d first second =
-    let with_new : LifeView → LifeView = λ l. record l { machine = d.machine; frames = d.frames; pages = d.pages; progress = d.progress; journal = d.journal; failed = d.failed } in
+    let with_new : LifeView → LifeView = λ l. record l { machine = d.machine; frames = d.frames; copies = d.copies; pages = d.pages; progress = d.progress; journal = d.journal; failed = d.failed } in
     ap with_new second ∙ ap with_new first
 
 -- ---- turns, one after another

@@ -21,8 +21,9 @@ pub record LifeView : Type 0 where
   pub input : List ℕ
   pub pace : List ℕ
   pub machine : MachineView
-  -- the words of all pages, and the flags of the pages
+  -- the words of all pages, those of the pages that were copied aside for an image, and the flags of the pages
   pub frames : List ℕ
+  pub copies : List ℕ
   pub pages : PageStates
   -- what the run so far leaves for the next image, but for the cells written since the newest one, which the pages tell
   pub progress : Progress

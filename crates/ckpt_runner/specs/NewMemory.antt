@@ -1,5 +1,5 @@
 -- What a life runs over before it begins or is resumed.
-use Rattle.std.specs.Prelude.{◌≡◌, ℕ, ◌*◌, ◌≤◌, true, List, replicate}
+use Rattle.std.specs.Prelude.{◌≡◌, ℕ, ◌*◌, ◌≤◌, true, List, length, replicate}
 use Rattle.dirty_pages.specs.Pages.{PageStates, fresh}
 use Rattle.machine_code.specs.State.{standing}
 use Rattle.page_frames.specs.Words.{fill_word}
@@ -9,11 +9,12 @@ use Rattle.paged_machine.specs.Standing.{StandsIn}
 use Rattle.compiled_program.specs.CanRun.{CanRun}
 use Rattle.run_images.specs.Compiled.{CompiledView, cells_in}
 
--- A machine at the entry of a program that it can run, over as many pages as its cells take, which hold the fill and are all dirty.
-pub record IsNewMemory (c : CompiledView) (fill : ℕ) (machine : MachineView) (frames : List ℕ) (pages : PageStates) : Type 0 where
+-- A machine at the entry of a program that it can run, over as many pages as its cells take, which hold the fill and are all dirty, with room for a copy of each.
+pub record IsNewMemory (c : CompiledView) (fill : ℕ) (machine : MachineView) (frames copies : List ℕ) (pages : PageStates) : Type 0 where
   pub runs : CanRun c
   pub count : ℕ
   pub frames_are : frames ≡ replicate (512 * count) (fill_word fill)
+  pub copies_are : length copies ≡ length frames
   pub pages_are : pages ≡ fresh count
   pub room : cells_in c ≤ 512 * count
   pub fit : FitTogether c.code frames pages

@@ -1,8 +1,8 @@
 -- What a run of instructions over frames and pages comes to, where each write fault is served.
-use Rattle.std.specs.Prelude.{◌≡◌, ℕ, ◌/◌, ◌<◌, Bool, false, ◌==◌, ◌||◌, List, ◌++◌, length, Option}
+use Rattle.std.specs.Prelude.{◌≡◌, ℕ, ◌/◌, ◌<◌, Bool, true, false, ◌==◌, ◌||◌, List, ◌++◌, length, Option}
 use Rattle.std.specs.List.{AllByRecursion, list_any}
 use Rattle.ckpt_base.specs.Event.{Event, Wrote, Byte, Took, Excluded, Checkpoint}
-use Rattle.dirty_pages.specs.Pages.{PageStates, is_dirty}
+use Rattle.dirty_pages.specs.Pages.{PageStates, is_dirty, in_snapshot}
 use Rattle.machine_code.specs.declared.event.Event as machine
 use Rattle.machine_code.specs.CodeView.{CodeView}
 use Rattle.machine_code.specs.Run.{world, after}
@@ -21,7 +21,7 @@ writes_page page Took = false
 writes_page page (Excluded k) = false
 writes_page page (Checkpoint node tick) = false
 
--- The run goes on from one standing to another by so many instructions, with stores, and then what the answer shows. The dirty pages are those that were, and those that it wrote.
+-- The run goes on from one standing to another by so many instructions, with stores, and then what the answer shows. The dirty pages are those that were, and those that it wrote; in the snapshot is no page that was not.
 pub record RunsOver (c : CodeView) (s : State) (m : List ℕ) (old : PageStates) (answer : Option machine.Event) (t : State) (n : List ℕ) (new : PageStates) : Type 0 where
   pub count : ℕ
   pub stores : List Event
@@ -29,4 +29,5 @@ pub record RunsOver (c : CodeView) (s : State) (m : List ℕ) (old : PageStates)
   pub comes : (input : List ℕ) (events : List Event) → after c count (world s m input events) ≡ world t n input (events ++ (stores ++ told_by t.ticks answer))
   pub pages : length new.dirty ≡ length old.dirty
   pub dirty : (page : ℕ) → page < length old.dirty → is_dirty new page ≡ (is_dirty old page || list_any (writes_page page) stores)
-  pub snapshot : new.in_snapshot ≡ old.in_snapshot
+  pub marks : length new.in_snapshot ≡ length old.in_snapshot
+  pub fewer : (page : ℕ) → in_snapshot new page ≡ true → in_snapshot old page ≡ true

@@ -37,6 +37,6 @@ abbrev pub ServesOnly : LifeView → LifeView → Type 0
 ServesOnly old new =
     new ≡ record old { machine = record old.machine { state = new.machine.state }; pages = new.pages; progress = new.progress; journal = new.journal; failed = new.failed }
 
--- what a turn leaves of it: all but these, the machine and the memory
+-- what a turn leaves of it: all but these, the machine and the memory with its copies
 abbrev pub TurnsOnly : LifeView → LifeView → Type 0
-TurnsOnly old new = new ≡ record old { machine = new.machine; frames = new.frames; pages = new.pages; progress = new.progress; journal = new.journal; failed = new.failed }
+TurnsOnly old new = new ≡ record old { machine = new.machine; frames = new.frames; copies = new.copies; pages = new.pages; progress = new.progress; journal = new.journal; failed = new.failed }

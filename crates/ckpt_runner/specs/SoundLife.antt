@@ -24,6 +24,9 @@ pub record IsSoundLife (life : LifeView) : Type 0 where
   pub stands : StandsIn life.compiled.code life.machine
   pub fit : FitTogether life.compiled.code life.frames life.pages
   pub cells : cells_in life.compiled ≤ length life.frames
+  -- each page has room for its copy and a mark
+  pub copies : length life.copies ≡ length life.frames
+  pub marks : length life.pages.in_snapshot ≡ length life.pages.dirty
   -- no page is in a snapshot
   pub none : (p : ℕ) → in_snapshot life.pages p ≡ false
   -- the directive in force is one of the program's, and the input is no longer than a record can tell

@@ -36,7 +36,7 @@ pub(crate) fn begin<'a, D: Disk>(
     requires least { 2 ≤ given.how.max }
     requires most { given.how.max ≤ 64 }
     requires short { length given.input.now ≤ 16777216 }
-    requires memory { IsNewMemory given.compiled.now given.how.fill rooms.memory.machine rooms.memory.frames rooms.memory.pages }
+    requires memory { IsNewMemory given.compiled.now given.how.fill rooms.memory.machine rooms.memory.frames rooms.memory.copies rooms.memory.pages }
     requires empty { (c : ℕ) → kept_word rooms.journal.kept c ≡ None }
     requires none { IsTrue (D.view disk.old).tells → (c : Store) → (D.view disk.old).may_leave c → chain_in c ≡ Ok None }
     ensures opens { IfOk result (λ life. IsTrue (D.view disk.old).tells

@@ -102,7 +102,7 @@ impl<'a> Life<'a> {
     #[inline(always)]
     fn run<L: Ledger>(&mut self, until: u64, steps: &mut Steps<L>) -> Option<Event>
         requires live { self.old.machine.live ≡ true }
-        ensures same { self.new ≡ record self.old { machine = self.new.machine; frames = self.new.frames; pages = self.new.pages } }
+        ensures same { self.new ≡ record self.old { machine = self.new.machine; frames = self.new.frames; copies = self.new.copies; pages = self.new.pages } }
         ensures served { (p : ℕ) → result ≡ Some (machine.WriteFault p) → ⊥ }
         ensures live { self.new.machine.live ≡ live_behind result }
         ensures steps { steps.new + self.old.machine.state.ticks ≡ steps.old + self.new.machine.state.ticks }

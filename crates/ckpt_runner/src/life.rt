@@ -35,9 +35,9 @@ impl<'a> Model for Life<'a> {
 
     ghost Value = { LifeView };
 
-    ghost view = { λ l. record { compiled = l.compiled.now; marks = l.marks; input = l.input.now; pace = l.pace.now; machine = l.memory.machine; frames = l.memory.frames; pages = l.memory.pages; progress = l.progress; journal = l.journal; writer = Idle; started = l.started; failed = l.failed; finished = l.finished } };
+    ghost view = { λ l. record { compiled = l.compiled.now; marks = l.marks; input = l.input.now; pace = l.pace.now; machine = l.memory.machine; frames = l.memory.frames; copies = l.memory.copies; pages = l.memory.pages; progress = l.progress; journal = l.journal; writer = Idle; started = l.started; failed = l.failed; finished = l.finished } };
 
-    ghost invariant = { λ l. IsSoundLife (record { compiled = l.compiled.now; marks = l.marks; input = l.input.now; pace = l.pace.now; machine = l.memory.machine; frames = l.memory.frames; pages = l.memory.pages; progress = l.progress; journal = l.journal; writer = Idle; started = l.started; failed = l.failed; finished = l.finished }) };
+    ghost invariant = { λ l. IsSoundLife (record { compiled = l.compiled.now; marks = l.marks; input = l.input.now; pace = l.pace.now; machine = l.memory.machine; frames = l.memory.frames; copies = l.memory.copies; pages = l.memory.pages; progress = l.progress; journal = l.journal; writer = Idle; started = l.started; failed = l.failed; finished = l.finished }) };
 }
 
 impl<'a> Life<'a> {

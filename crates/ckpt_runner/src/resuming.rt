@@ -50,7 +50,7 @@ pub(crate) fn resume<'a, D: Disk>(
     given: Given<'a>,
     disk: &mut D,
 ) -> Result<Life<'a>, OpenFault>
-    requires memory { IsNewMemory given.compiled.now given.how.fill rooms.memory.machine rooms.memory.frames rooms.memory.pages }
+    requires memory { IsNewMemory given.compiled.now given.how.fill rooms.memory.machine rooms.memory.frames rooms.memory.copies rooms.memory.pages }
     requires short { length given.input.now ≤ 16777216 }
     requires rest { chain.due ≡ Step.Piece 0 }
     requires some { 1 ≤ chain.current.count }
@@ -182,6 +182,7 @@ fn stand_behind(memory: &mut Memory, compiled: &Compiled, newest: &Fields)
     ensures live { memory.new.machine.live ≡ true }
     ensures stands { StandsIn compiled.now.code memory.new.machine }
     ensures frames { memory.new.frames ≡ memory.old.frames }
+    ensures copies { memory.new.copies ≡ memory.old.copies }
     ensures pages { memory.new.pages ≡ protected memory.old.pages }
 {
     memory

@@ -38,7 +38,7 @@ pub(crate) struct Rooms {
 impl Rooms {
     /// Takes all memory of a life. The one refusal is that none is found.
     pub(crate) fn new(alloc: Global, compiled: &Compiled, fill: u8) -> Result<Rooms, NoMemory>
-        ensures memory { IfOk result (λ rooms. IsNewMemory compiled.now fill rooms.memory.machine rooms.memory.frames rooms.memory.pages) }
+        ensures memory { IfOk result (λ rooms. IsNewMemory compiled.now fill rooms.memory.machine rooms.memory.frames rooms.memory.copies rooms.memory.pages) }
         ensures none { IfOk result (λ rooms. (c : ℕ) → kept_word rooms.journal.kept c ≡ None) }
     {
         let memory = new_memory(alloc, compiled, fill)?;
@@ -52,14 +52,15 @@ impl Rooms {
     }
 }
 
-// A machine at the entry of the program, over frames whose bytes are the fill, with all pages dirty.
+// A machine at the entry of the program, over frames whose bytes are the fill, with all pages dirty, and room for a copy of each.
 fn new_memory(alloc: Global, compiled: &Compiled, fill: u8) -> Result<Memory, NoMemory>
-    ensures answer { IfOk result (λ memory. IsNewMemory compiled.now fill memory.machine memory.frames memory.pages) }
+    ensures answer { IfOk result (λ memory. IsNewMemory compiled.now fill memory.machine memory.frames memory.copies memory.pages) }
 {
     let pages = (compiled.cells() + PAGE_CELLS - 1) / PAGE_CELLS;
     Ok(Memory {
         machine: Machine::new(alloc, compiled.code())?,
         frames: Frames::new(alloc, pages, fill)?,
+        copies: Frames::new(alloc, pages, fill)?,
         pages: Pages::new(alloc, pages)?,
     })
 }

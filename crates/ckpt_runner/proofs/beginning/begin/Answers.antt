@@ -15,7 +15,7 @@ returns-clause-opens g c = λ told.
     let given = c.args.given in
     let memory = c.args.rooms.memory in
     let u = g.D.Disk.view c.args.disk.now in
-    let life : LifeView = record { compiled = given.compiled.now; marks = given.marks; input = given.input.now; pace = given.how.pace.now; machine = memory.machine; frames = c.load_first_words.new.frames; pages = memory.pages; progress = c.at_first.result; journal = c.in_ok-journal.journal; writer = Idle; started = Begun; failed = false; finished = false } in
+    let life : LifeView = record { compiled = given.compiled.now; marks = given.marks; input = given.input.now; pace = given.how.pace.now; machine = memory.machine; frames = c.load_first_words.new.frames; copies = memory.copies; pages = memory.pages; progress = c.at_first.result; journal = c.in_ok-journal.journal; writer = Idle; started = Begun; failed = false; finished = false } in
     let new : IsNewLife life = record { entry = c.requires.memory.entry; words = c.load_first_words.ensures.words; count = c.requires.memory.count; pages = c.requires.memory.pages_are; progress = c.at_first.ensures.answer; output = c.in_ok-journal.ensures.output; writer = refl } in (
       begun_at given.compiled.now given.marks given.how.every given.input.now,
       (c.requires.none told u.seen (g.met.D.Disk.lawful c.args.disk.now told).seen_stays, refl),
@@ -27,7 +27,7 @@ pub returns-clause-lives : goal.returns-clause-lives
 returns-clause-lives g c =
     let given = c.args.given in
     let memory = c.args.rooms.memory in
-    let life : LifeView = record { compiled = given.compiled.now; marks = given.marks; input = given.input.now; pace = given.how.pace.now; machine = memory.machine; frames = c.load_first_words.new.frames; pages = memory.pages; progress = c.at_first.result; journal = c.in_ok-journal.journal; writer = Idle; started = Begun; failed = false; finished = false } in
+    let life : LifeView = record { compiled = given.compiled.now; marks = given.marks; input = given.input.now; pace = given.how.pace.now; machine = memory.machine; frames = c.load_first_words.new.frames; copies = memory.copies; pages = memory.pages; progress = c.at_first.result; journal = c.in_ok-journal.journal; writer = Idle; started = Begun; failed = false; finished = false } in
     let new : IsNewLife life = record { entry = c.requires.memory.entry; words = c.load_first_words.ensures.words; count = c.requires.memory.count; pages = c.requires.memory.pages_are; progress = c.at_first.ensures.answer; output = c.in_ok-journal.ensures.output; writer = refl } in
     (begun_at given.compiled.now given.marks given.how.every given.input.now, refl, new_lives life given.how.every new c.in_ok-journal.ensures.chain.0)
 
@@ -36,7 +36,7 @@ returns-clause-good g c = λ told s is stand.
     let given = c.args.given in
     let memory = c.args.rooms.memory in
     let u = g.D.Disk.view c.args.disk.now in
-    let life : LifeView = record { compiled = given.compiled.now; marks = given.marks; input = given.input.now; pace = given.how.pace.now; machine = memory.machine; frames = c.load_first_words.new.frames; pages = memory.pages; progress = c.at_first.result; journal = c.in_ok-journal.journal; writer = Idle; started = Begun; failed = false; finished = false } in
+    let life : LifeView = record { compiled = given.compiled.now; marks = given.marks; input = given.input.now; pace = given.how.pace.now; machine = memory.machine; frames = c.load_first_words.new.frames; copies = memory.copies; pages = memory.pages; progress = c.at_first.result; journal = c.in_ok-journal.journal; writer = Idle; started = Begun; failed = false; finished = false } in
     let new : IsNewLife life = record { entry = c.requires.memory.entry; words = c.load_first_words.ensures.words; count = c.requires.memory.count; pages = c.requires.memory.pages_are; progress = c.at_first.ensures.answer; output = c.in_ok-journal.ensures.output; writer = refl } in
     let of = begun_of c.begun_lives_are_of_their_source.ensures.law (given_as given) s is in (
       begun_at given.compiled.now given.marks given.how.every given.input.now,

@@ -15,7 +15,7 @@ use Rattle.ckpt_runner.proofs.StandingThen.{images_after}
 use Rattle.ckpt_runner.proofs.resuming.resume.Goals as goal
 
 pub recovered-requires-clause-room : goal.recovered-requires-clause-room
-recovered-requires-clause-room g c = new_room _ _ _ _ _ c.requires.memory
+recovered-requires-clause-room g c = new_room _ _ _ _ _ _ c.requires.memory
 
 pub resume-requires-clause-within : goal.resume-requires-clause-within
 resume-requires-clause-within g c = λ tells.
@@ -36,11 +36,12 @@ invariant_of-result g c =
     let kept = c.args.rooms.journal.kept in
     let newest = c.in_ok-newest.newest in
     let memory = c.stand_behind.new.memory in
-    let life : LifeView = record { compiled = given.compiled.now; marks = given.marks; input = given.input.now; pace = given.how.pace.now; machine = memory.machine; frames = memory.frames; pages = memory.pages; progress = c.progress_behind.result; journal = c.in_ok-journal.journal; writer = Idle; started = Resumed newest.number newest.steps; failed = false; finished = false } in
-    let is : IsResumedLife life kept given.how.fill newest = resumed_is life kept given.how.fill newest c.args.rooms.memory.machine c.args.rooms.memory.frames c.recovered.new.frames c.args.rooms.memory.pages c.requires.memory c.in_ok-newest.ensures.newest.1
+    let life : LifeView = record { compiled = given.compiled.now; marks = given.marks; input = given.input.now; pace = given.how.pace.now; machine = memory.machine; frames = memory.frames; copies = memory.copies; pages = memory.pages; progress = c.progress_behind.result; journal = c.in_ok-journal.journal; writer = Idle; started = Resumed newest.number newest.steps; failed = false; finished = false } in
+    let is : IsResumedLife life kept given.how.fill newest = resumed_is life kept given.how.fill newest c.args.rooms.memory.machine c.args.rooms.memory.frames c.args.rooms.memory.copies c.recovered.new.frames c.args.rooms.memory.pages c.requires.memory c.in_ok-newest.ensures.newest.1
     c.in_ok-newest.ensures.words c.recovered.ensures.size c.stand_behind.ensures.frames c.stand_behind.ensures.pages c.stand_behind.ensures.state c.progress_behind.ensures.answer c.in_ok-journal.ensures.output refl in
     resumed_sound (given_as given) life kept given.how.fill newest is c.in_ok-newest.ensures.restarts refl refl refl c.requires.memory.runs c.stand_behind.ensures.stands
     (resumed_fit given.compiled.now.code c.args.rooms.memory.frames memory.frames c.args.rooms.memory.pages memory.pages c.requires.memory.fit (ap (λ (l : List ℕ). length l) c.stand_behind.ensures.frames ∙ c.recovered.ensures.size) c.stand_behind.ensures.pages)
+    (ap (λ (l : List ℕ). length l) c.stand_behind.ensures.copies ∙ c.requires.memory.copies_are ∙ sym (ap (λ (l : List ℕ). length l) c.stand_behind.ensures.frames ∙ c.recovered.ensures.size))
     c.requires.short c.in_ok-journal.ensures.whole (ap (λ (x : ChainView). x.current.newest) c.in_ok-journal.ensures.chain ∙ c.in_ok-newest.ensures.newest.0)
 
 pub returns-clause-opens : goal.returns-clause-opens
@@ -55,8 +56,8 @@ returns-clause-opens g c = λ told.
     let kept = c.args.rooms.journal.kept in
     let newest = c.in_ok-newest.newest in
     let memory = c.stand_behind.new.memory in
-    let life : LifeView = record { compiled = given.compiled.now; marks = given.marks; input = given.input.now; pace = given.how.pace.now; machine = memory.machine; frames = memory.frames; pages = memory.pages; progress = c.progress_behind.result; journal = c.in_ok-journal.journal; writer = Idle; started = Resumed newest.number newest.steps; failed = false; finished = false } in
-    let is : IsResumedLife life kept given.how.fill newest = resumed_is life kept given.how.fill newest c.args.rooms.memory.machine c.args.rooms.memory.frames c.recovered.new.frames c.args.rooms.memory.pages c.requires.memory c.in_ok-newest.ensures.newest.1
+    let life : LifeView = record { compiled = given.compiled.now; marks = given.marks; input = given.input.now; pace = given.how.pace.now; machine = memory.machine; frames = memory.frames; copies = memory.copies; pages = memory.pages; progress = c.progress_behind.result; journal = c.in_ok-journal.journal; writer = Idle; started = Resumed newest.number newest.steps; failed = false; finished = false } in
+    let is : IsResumedLife life kept given.how.fill newest = resumed_is life kept given.how.fill newest c.args.rooms.memory.machine c.args.rooms.memory.frames c.args.rooms.memory.copies c.recovered.new.frames c.args.rooms.memory.pages c.requires.memory c.in_ok-newest.ensures.newest.1
     c.in_ok-newest.ensures.words c.recovered.ensures.size c.stand_behind.ensures.frames c.stand_behind.ensures.pages c.stand_behind.ensures.state c.progress_behind.ensures.answer c.in_ok-journal.ensures.output refl in
     resumed_opened (given_as given) life kept newest c.args.chain u v w found.0 told (g.met.D.Disk.lawful c.args.disk.now told) looked found.1 found.2 c.in_ok-journal.ensures.chain
     (c.in_ok-journal.ensures.holds (subst IsTrue (sym looked.tells) told) found.0 beside found.2) refl refl refl is c.in_ok-newest.ensures.restarts c.in_ok-newest.ensures.newest.0 (c.in_ok-newest.ensures.written told)
@@ -67,8 +68,8 @@ returns-clause-lives g c =
     let kept = c.args.rooms.journal.kept in
     let newest = c.in_ok-newest.newest in
     let memory = c.stand_behind.new.memory in
-    let life : LifeView = record { compiled = given.compiled.now; marks = given.marks; input = given.input.now; pace = given.how.pace.now; machine = memory.machine; frames = memory.frames; pages = memory.pages; progress = c.progress_behind.result; journal = c.in_ok-journal.journal; writer = Idle; started = Resumed newest.number newest.steps; failed = false; finished = false } in
-    let is : IsResumedLife life kept given.how.fill newest = resumed_is life kept given.how.fill newest c.args.rooms.memory.machine c.args.rooms.memory.frames c.recovered.new.frames c.args.rooms.memory.pages c.requires.memory c.in_ok-newest.ensures.newest.1
+    let life : LifeView = record { compiled = given.compiled.now; marks = given.marks; input = given.input.now; pace = given.how.pace.now; machine = memory.machine; frames = memory.frames; copies = memory.copies; pages = memory.pages; progress = c.progress_behind.result; journal = c.in_ok-journal.journal; writer = Idle; started = Resumed newest.number newest.steps; failed = false; finished = false } in
+    let is : IsResumedLife life kept given.how.fill newest = resumed_is life kept given.how.fill newest c.args.rooms.memory.machine c.args.rooms.memory.frames c.args.rooms.memory.copies c.recovered.new.frames c.args.rooms.memory.pages c.requires.memory c.in_ok-newest.ensures.newest.1
     c.in_ok-newest.ensures.words c.recovered.ensures.size c.stand_behind.ensures.frames c.stand_behind.ensures.pages c.stand_behind.ensures.state c.progress_behind.ensures.answer c.in_ok-journal.ensures.output refl in
     (resumed_at life newest [] [], resumed_starts (given_as given) life kept given.how.fill newest.number newest [] [] refl c.in_ok-newest.ensures.restarts.node is, resumed_lives life kept given.how.fill newest [] [] is)
 
@@ -92,8 +93,8 @@ returns-clause-good g c = λ told s source stand.
     let kept = c.args.rooms.journal.kept in
     let newest = c.in_ok-newest.newest in
     let memory = c.stand_behind.new.memory in
-    let life : LifeView = record { compiled = given.compiled.now; marks = given.marks; input = given.input.now; pace = given.how.pace.now; machine = memory.machine; frames = memory.frames; pages = memory.pages; progress = c.progress_behind.result; journal = c.in_ok-journal.journal; writer = Idle; started = Resumed newest.number newest.steps; failed = false; finished = false } in
-    let is : IsResumedLife life kept given.how.fill newest = resumed_is life kept given.how.fill newest c.args.rooms.memory.machine c.args.rooms.memory.frames c.recovered.new.frames c.args.rooms.memory.pages c.requires.memory c.in_ok-newest.ensures.newest.1
+    let life : LifeView = record { compiled = given.compiled.now; marks = given.marks; input = given.input.now; pace = given.how.pace.now; machine = memory.machine; frames = memory.frames; copies = memory.copies; pages = memory.pages; progress = c.progress_behind.result; journal = c.in_ok-journal.journal; writer = Idle; started = Resumed newest.number newest.steps; failed = false; finished = false } in
+    let is : IsResumedLife life kept given.how.fill newest = resumed_is life kept given.how.fill newest c.args.rooms.memory.machine c.args.rooms.memory.frames c.args.rooms.memory.copies c.recovered.new.frames c.args.rooms.memory.pages c.requires.memory c.in_ok-newest.ensures.newest.1
     c.in_ok-newest.ensures.words c.recovered.ensures.size c.stand_behind.ensures.frames c.stand_behind.ensures.pages c.stand_behind.ensures.state c.progress_behind.ensures.answer c.in_ok-journal.ensures.output refl in
     let here = subst IsTrue (sym looked.tells) told in
     resumed_opened_good c.newest_images_need_most.ensures.law (record { stand = c.resumed_lives_hold_their_records.ensures.stand; held = c.resumed_lives_hold_their_records.ensures.held }) c.resumed_lives_are_of_their_source.ensures.law

@@ -1,5 +1,7 @@
+use Rattle.std.proofs.Common.{◌∙◌, ap, Err}
+use Rattle.std.proofs.lemmas.Result.{err_from_is_err_and}
 use Rattle.ckpt_runner.specs.Arguments.{given_by}
-use Rattle.ckpt_runner.proofs.OpenLaws.{refused_leaves, opens_there, resumed_opens}
+use Rattle.ckpt_runner.proofs.OpenLaws.{chain_leaves, refused_leaves, opens_there, resumed_opens}
 use Rattle.ckpt_runner.proofs.GoodOpening.{same_standing, old_standing, old_later, standing_twice, opens_good, resumed_opens_good}
 use Rattle.ckpt_runner.proofs.StandingThen.{images_first, images_after}
 use Rattle.ckpt_runner.proofs.life.Life.open.Goals as goal
@@ -66,3 +68,8 @@ returns-clause-moments g c =
 pub returns-clause-later : goal.returns-clause-later
 returns-clause-later g c =
     images_after (g.D.Disk.view c.args.disk.now) (g.D.Disk.view c.open.new.disk) (g.D.Disk.view c.resume.new.disk) (g.met.D.Disk.tells_all c.args.disk.now) c.open.ensures.steady.tells (old_later (g.D.Disk.view c.args.disk.now) (g.D.Disk.view c.open.new.disk) c.open.ensures.any_moment) c.resume.ensures.later
+
+pub returns-in_err-open-clause-leaves : goal.returns-in_err-open-clause-leaves
+returns-in_err-open-clause-leaves g c =
+    let p = err_from_is_err_and c.from_residual-in_err-open.result c.from_residual-in_err-open.ensures.1 in
+    chain_leaves (g.D.Disk.view c.args.disk.now) (g.D.Disk.view c.open.new.disk) c.in_err-open.field-0.0 c.from_residual-in_err-open.result (p.1 ∙ ap Err p.2) c.open.ensures.same (λ told. (c.open.ensures.any_moment told).now told) c.in_err-open.ensures.failed
