@@ -9,8 +9,8 @@ ghost use Rattle.command_words.specs.declared.stops.Stop.TheVariants.{AtStep, In
 
 use crate::course::Course;
 use crate::living::{LifeFault, live_to};
-use command_words::Stop;
 use ckpt_runner::{How, OpenFault};
+use command_words::Stop;
 use compiled_program::Compiled;
 use disk_model::MemDisk;
 use image_format::Marks;
