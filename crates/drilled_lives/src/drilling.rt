@@ -99,11 +99,12 @@ fn add(courses: &mut Vec<Course>, course: Course) -> Result<(), NoMemory>
     }
 }
 
-// The bytes that an image file may have: a header, and so many records of a program with so many cells. The runs of a record lie apart.
+// The bytes that an image file may have: a header, and so many records of a program with so many cells. A record has 109 bytes, and eight for each of its cells and
+// of its runs; its runs lie apart, so that cells and runs are one more than the cells of the program at most.
 fn image_room(max: u16, cells: u32) -> usize
     requires max { max ≤ 64 }
     requires cells { cells ≤ 262144 }
-    ensures answer { result ≡ 16 + max * (117 + 12 * cells) }
+    ensures answer { result ≡ 16 + max * (117 + 8 * cells) }
 {
-    16 + max as usize * (117 + 12 * cells as usize)
+    16 + max as usize * (117 + 8 * cells as usize)
 }
