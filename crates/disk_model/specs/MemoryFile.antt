@@ -1,5 +1,5 @@
 -- A file in memory, and what a crash may leave of it.
-use Rattle.std.specs.Prelude.{◌≡◌, ℕ, ◌+◌, ◌<◌, ◌≤◌, min, max, nat_lt, Bool, true, false, if◌then◌else◌, List, ◌++◌, length, take, drop, replicate, get_or, map, not, ◌&&◌, ◌==◌}
+use Rattle.std.specs.Prelude.{◌≡◌, ℕ, ◌+◌, ◌-◌, ◌<◌, ◌≤◌, min, max, nat_lt, Bool, true, false, if◌then◌else◌, List, ◌++◌, length, take, drop, replicate, get_or, map, not, ◌&&◌, ◌==◌}
 use Rattle.std.specs.List.{range_with_len}
 use Rattle.disk_model.specs.Change.{Change, Write, Cut, Sync, Start, end_of}
 
@@ -10,6 +10,10 @@ pub record FileState : Type 0 where
   pub dirty : List Bool
   pub low : ℕ
   pub high : ℕ
+
+-- a list of marks for so many places, of which the first are these and no other has one
+abbrev pub padded : ℕ → List Bool → List Bool
+padded room front = front ++ replicate (room - length front) false
 
 -- A crash leaves some length, and each byte that was not written since the file was last lasting.
 pub record MayLeave (s : FileState) (c : List ℕ) : Type 0 where

@@ -12,6 +12,7 @@
 
 mod disk;
 mod disk_file;
+mod marks;
 mod memory_disk;
 mod memory_file;
 mod memory_files;

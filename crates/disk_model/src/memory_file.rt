@@ -5,6 +5,7 @@ ghost use Rattle.disk_model.specs.View.{Takes};
 ghost use Rattle.disk_model.specs.MemoryFile.{IsTaken, changed, settled, crashed};
 ghost use Rattle.disk_model.specs.MemoryLog.{change_of};
 
+use crate::marks::Marks;
 use crate::memory_log::Kind;
 use std::alloc::{AllocError, Global};
 use std::marker::Model;
@@ -16,7 +17,7 @@ pub struct MemFile {
     seen_len: usize,
     lasting: Vec<u8>,
     lasting_len: usize,
-    dirty: Vec<bool>,
+    dirty: Marks,
     low: usize,
     high: usize,
 }
@@ -27,12 +28,12 @@ impl Model for MemFile {
 
     ghost Value = { FileState };
 
-    ghost view = { λ f. record { seen = take f.seen_len f.seen.items; lasting = take f.lasting_len f.lasting.items; dirty = f.dirty.items; low = f.low; high = f.high } };
+    ghost view = { λ f. record { seen = take f.seen_len f.seen.items; lasting = take f.lasting_len f.lasting.items; dirty = f.dirty; low = f.low; high = f.high } };
 
     ghost invariant = { λ f. record {
-      seen : (f.seen_len ≤ length f.seen.items) × (length f.seen.items ≡ length f.dirty.items);
-      lasting : (f.lasting_len ≤ length f.lasting.items) × (length f.lasting.items ≡ length f.dirty.items);
-      is_file : IsFile (record { seen = take f.seen_len f.seen.items; lasting = take f.lasting_len f.lasting.items; dirty = f.dirty.items; low = f.low; high = f.high });
+      seen : (f.seen_len ≤ length f.seen.items) × (length f.seen.items ≡ length f.dirty);
+      lasting : (f.lasting_len ≤ length f.lasting.items) × (length f.lasting.items ≡ length f.dirty);
+      is_file : IsFile (record { seen = take f.seen_len f.seen.items; lasting = take f.lasting_len f.lasting.items; dirty = f.dirty; low = f.low; high = f.high });
     } };
 }
 
@@ -46,7 +47,7 @@ impl MemFile {
             seen_len: 0,
             lasting: zeros(alloc, room)?,
             lasting_len: 0,
-            dirty: marks(alloc, room)?,
+            dirty: Marks::new(alloc, room)?,
             low: 0,
             high: 0,
         })
@@ -99,7 +100,7 @@ impl MemFile {
             pick,
         );
         self.lasting.copy_from_slice(&self.seen);
-        self.dirty.fill(false);
+        self.dirty.clear();
         self.seen_len = len;
         self.lasting_len = len;
         self.low = len;
@@ -113,7 +114,7 @@ impl MemFile {
         let room = self.dirty.len();
         let end = at + bytes.len();
         put(&mut self.seen, at, bytes);
-        mark(&mut self.dirty, at, bytes.len());
+        self.dirty.mark(at, bytes.len());
         self.seen_len = self.seen_len.max(end);
         self.high = self.high.max(end);
     }
@@ -130,7 +131,7 @@ impl MemFile {
     {
         self.lasting.copy_from_slice(&self.seen);
         self.lasting_len = self.seen_len;
-        self.dirty.fill(false);
+        self.dirty.clear();
         self.low = self.seen_len;
         self.high = self.seen_len;
     }
@@ -145,7 +146,7 @@ impl MemFile {
         self.seen.copy_from_slice(&self.lasting);
         self.lasting_len = len;
         self.seen_len = len;
-        self.dirty.fill(false);
+        self.dirty.clear();
         self.low = len;
         self.high = len;
     }
@@ -161,23 +162,13 @@ pub(crate) fn put(buf: &mut Vec<u8>, at: usize, bytes: &[u8])
     buf[at..end].copy_from_slice(bytes);
 }
 
-// Marks this many bytes from `at` on.
-fn mark(dirty: &mut Vec<bool>, at: usize, count: usize)
-    requires { at + count ≤ length dirty.old.items }
-    ensures { dirty.new.items ≡ take at dirty.old.items ++ replicate count true ++ drop (at + count) dirty.old.items }
-{
-    let room = dirty.len();
-    let end = at + count;
-    dirty[at..end].fill(true);
-}
-
 // Makes `seen` what the crash leaves, and answers its length.
 fn leave(
     seen: &mut Vec<u8>,
     len: usize,
     lasting: &[u8],
     lasting_len: usize,
-    dirty: &[bool],
+    dirty: &Marks,
     pick: u8,
 ) -> usize
     requires lens { (len ≤ length seen.old.items) × (lasting_len ≤ length lasting.now) }
@@ -197,13 +188,13 @@ fn leave(
 }
 
 // Sets each byte that is marked, or stands past the lasting length, to `pick`.
-fn spoil(seen: &mut Vec<u8>, len: usize, lasting_len: usize, dirty: &[bool], pick: u8)
+fn spoil(seen: &mut Vec<u8>, len: usize, lasting_len: usize, dirty: &Marks, pick: u8)
     requires { (len ≤ length seen.old.items) × (length seen.old.items ≡ length dirty.now) }
     ensures bytes { take len seen.new.items ≡ map (λ i. if nat_lt i lasting_len && not (get_or dirty.now i false) then get_or seen.old.items i 0 else pick) (range_with_len 0 len) }
     ensures len { length seen.new.items ≡ length seen.old.items }
 {
     for i in 0..len {
-        if i >= lasting_len || dirty[i] {
+        if i >= lasting_len || dirty.is_marked(i) {
             seen[i] = pick;
         }
     }
@@ -226,13 +217,5 @@ pub(crate) fn zeros(alloc: Global, n: usize) -> Result<Vec<u8>, AllocError>
 {
     let mut v = Vec::new(alloc);
     v.resize(n, 0)?;
-    Ok(v)
-}
-
-fn marks(alloc: Global, n: usize) -> Result<Vec<bool>, AllocError>
-    ensures { IfOk result (λ v. v.items ≡ replicate n false) }
-{
-    let mut v = Vec::new(alloc);
-    v.resize(n, false)?;
     Ok(v)
 }

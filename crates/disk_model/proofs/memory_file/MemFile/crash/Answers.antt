@@ -12,26 +12,26 @@ pub returns : goal.returns
 returns c =
     let f = c.self.inside in
     let len = c.leave-len.result in
-    let bytes = crashed c.args.pick (record { seen = take f.seen_len f.seen.items; lasting = take f.lasting_len f.lasting.items; dirty = f.dirty.items; low = f.low; high = f.high }) in
-    let p : take len c.leave-len.new.seen.items ≡ bytes = c.leave-len.ensures.bytes ∙ (λ i. crashed c.args.pick (record { seen = take f.seen_len f.seen.items; lasting = take f.lasting_len (c.deref.ensures.value i); dirty = c.deref-2.ensures.value i; low = 0; high = 0 })) in
-    let q : take len c.copy_from_slice.new.self.items ≡ bytes = ap (λ (l : List ℕ). take len l) (c.copy_from_slice.ensures.items ∙ c.deref-3.ensures.value) ∙ p in
-    let r : c.fill.new.self.items ≡ replicate (length f.dirty.items) false = search rules in
+    let bytes = crashed c.args.pick (record { seen = take f.seen_len f.seen.items; lasting = take f.lasting_len f.lasting.items; dirty = f.dirty; low = f.low; high = f.high }) in
+    let p : take len c.leave-len.new.seen.items ≡ bytes = c.leave-len.ensures.bytes ∙ (λ i. crashed c.args.pick (record { seen = take f.seen_len f.seen.items; lasting = take f.lasting_len (c.deref.ensures.value i); dirty = f.dirty; low = 0; high = 0 })) in
+    let q : take len c.copy_from_slice.new.self.items ≡ bytes = ap (λ (l : List ℕ). take len l) (c.copy_from_slice.ensures.items ∙ c.deref-2.ensures.value) ∙ p in
+    let r : c.clear.new.self ≡ replicate (length f.dirty) false = c.clear.ensures.exact in
     let s : len ≡ length bytes = omega (arith, ap length p, length-take len c.leave-len.new.seen.items, c.leave-len.ensures.len.1) in
-    record_of _ _ bytes _ len (length f.dirty.items) p q r s ∙ ap (λ (x : FileState). settled (length x.dirty) (crashed c.args.pick x)) c.self.view_is
+    record_of _ _ bytes _ len (length f.dirty) p q r s ∙ ap (λ (x : FileState). settled (length x.dirty) (crashed c.args.pick x)) c.self.view_is
 
 pub invariant_of-self : goal.invariant_of-self
 invariant_of-self c =
     let f = c.self.inside in
     let len = c.leave-len.result in
-    let bytes = crashed c.args.pick (record { seen = take f.seen_len f.seen.items; lasting = take f.lasting_len f.lasting.items; dirty = f.dirty.items; low = f.low; high = f.high }) in
-    let p : take len c.leave-len.new.seen.items ≡ bytes = c.leave-len.ensures.bytes ∙ (λ i. crashed c.args.pick (record { seen = take f.seen_len f.seen.items; lasting = take f.lasting_len (c.deref.ensures.value i); dirty = c.deref-2.ensures.value i; low = 0; high = 0 })) in
-    let q : take len c.copy_from_slice.new.self.items ≡ bytes = ap (λ (l : List ℕ). take len l) (c.copy_from_slice.ensures.items ∙ c.deref-3.ensures.value) ∙ p in
-    let r : c.fill.new.self.items ≡ replicate (length f.dirty.items) false = search rules in
+    let bytes = crashed c.args.pick (record { seen = take f.seen_len f.seen.items; lasting = take f.lasting_len f.lasting.items; dirty = f.dirty; low = f.low; high = f.high }) in
+    let p : take len c.leave-len.new.seen.items ≡ bytes = c.leave-len.ensures.bytes ∙ (λ i. crashed c.args.pick (record { seen = take f.seen_len f.seen.items; lasting = take f.lasting_len (c.deref.ensures.value i); dirty = f.dirty; low = 0; high = 0 })) in
+    let q : take len c.copy_from_slice.new.self.items ≡ bytes = ap (λ (l : List ℕ). take len l) (c.copy_from_slice.ensures.items ∙ c.deref-2.ensures.value) ∙ p in
+    let r : c.clear.new.self ≡ replicate (length f.dirty) false = c.clear.ensures.exact in
     let s : len ≡ length bytes = omega (arith, ap length p, length-take len c.leave-len.new.seen.items, c.leave-len.ensures.len.1) in
-    let room = length f.dirty.items in
+    let room = length f.dirty in
     let inv = c.self.invariant in
-    let cells : length c.fill.new.self.items ≡ room = ap length r ∙ length-replicate room false in
-    let lasting : length c.copy_from_slice.new.self.items ≡ length c.leave-len.new.seen.items = ap length (c.copy_from_slice.ensures.items ∙ c.deref-3.ensures.value) in
+    let cells : length c.clear.new.self ≡ room = ap length r ∙ length-replicate room false in
+    let lasting : length c.copy_from_slice.new.self.items ≡ length c.leave-len.new.seen.items = ap length (c.copy_from_slice.ensures.items ∙ c.deref-2.ensures.value) in
     record {
       seen = (c.leave-len.ensures.len.1, omega (arith, cells, c.leave-len.ensures.len.0, inv.seen.1));
       lasting = (omega (arith, lasting, c.leave-len.ensures.len.1), omega (arith, lasting, cells, c.leave-len.ensures.len.0, inv.seen.1));
