@@ -3,7 +3,7 @@
 
 Usage: bench/pool.py PROGRAM [FOLDER..]     PROGRAM: the built `ckpt`. FOLDER: where pools are made, /dev/shm and /tmp where none is named.
 
-The C program takes no digests: what `sha256sum` takes for as many bytes, 19 MiB, is told beside it. The least of each, wall and processor milliseconds."""
+The program has no `pool-put` yet (README, "What works"); this is the measure that it has to meet, a ratio of 1.2. The C program takes no digests: what `sha256sum` takes for as many bytes, 19 MiB, is told beside it. The least of each, wall and processor milliseconds."""
 import os
 import random
 import subprocess
